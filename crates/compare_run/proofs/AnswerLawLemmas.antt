@@ -1,12 +1,13 @@
 -- No frame differs of two streams that are honest damage of one run.
 use Rattle.std.proofs.Common.{◌≡◌, ℕ, zero, suc, ◌+◌, ◌-◌, ◌%◌, ◌<◌, ◌≤◌, ◌==◌, ◌&&◌, max, Bool, true, false, List, []}
-use Rattle.std.proofs.Common.{◌∷◌, map, length, find, Option, Some, None, refl, ap, ap₂, sym, ◌∙◌, ⊎_elim, arith}
+use Rattle.std.proofs.Common.{◌∷◌, map, length, find, Option, Some, None, refl, ap, ap₂, sym, ◌∙◌, arith}
 use Rattle.std.specs.Prelude.{option_map, option_to_list, if◌then◌else◌}
 use Rattle.std.specs.List.{filter, flat_map, items_where_true, range_with_len}
 use Rattle.std.specs.Option.{option_or}
-use Rattle.std.proofs.lemmas.Bool.{cases_Bool, cond-true, cond-false, eqb-true, and_parts}
+use Rattle.std.proofs.lemmas.Bool.{eqb-true, and_parts}
 use Rattle.std.proofs.lemmas.Option.{same_Some}
 use Rattle.std.proofs.lemmas.List.Folds.{find-append}
+use Rattle.terms.proofs.CaseLemmas.{bool_cases}
 use Rattle.plp_config.specs.Capacity.{IsPlan}
 use Rattle.plp_config.specs.InterleavingFrames.{begin_of}
 use Rattle.plp_config.specs.Laws.{SuperframeBegins, BeginIsLast}
@@ -69,26 +70,18 @@ module _ (c : Config) (sent : List Sent) (survival : List Bool) (m : ℕ) where
       → x.content ≡ Whole g
       → (a ≤ m) × (m < a + len) × (whole m ≡ true)
   in_range zero a x g e is = absurd (let z : ◌≡◌ {A = Option FrameRecord} None (Some x) = e in cc)
-  in_range (suc len) a x g e is = ⊎_elim
-      (λ (t : (a == m) ≡ true).
-      let own : a ≡ m = eqb-true a m t in
-      let same : one a ≡ x =
-      same_Some (one a) x
-      (sym (cond-true {A = Option FrameRecord} (a == m) (Some (one a))
-      (record_at m (map one (range_with_len (a + 1) len))) t) ∙ e) in (
+  in_range (suc len) a x g e is =
+      bool_cases (a == m)
+      (λ t. let own : a ≡ m = eqb-true a m t in
+      let same : one a ≡ x = same_Some (one a) x (rw t at e) in (
         omega (arith, own),
         omega (arith, own),
         sym (ap whole own) ∙ whole_content (whole a) a g (ap (λ (y : FrameRecord). y.content) same ∙ is),
       ))
-      (λ (t : (a == m) ≡ false).
-      let later =
-      in_range len (a + 1) x g
-      (sym (cond-false {A = Option FrameRecord} (a == m) (Some (one a))
-      (record_at m (map one (range_with_len (a + 1) len))) t) ∙ e) is in
+      (λ t. let later = in_range len (a + 1) x g (rw t at e) is in
       let low = later.0 in
       let high = later.1 in
       (omega (arith, low), omega (arith, high), later.2))
-      (cases_Bool (a == m))
 
   abbrev joins : ℕ → Bool
   joins n = whole n && (n % c.frames == 0)

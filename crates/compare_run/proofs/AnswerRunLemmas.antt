@@ -3,14 +3,15 @@ use Rattle.std.proofs.Common.{◌≡◌, ℕ, ◌+◌, ◌==◌, ◌&&◌, Bool,
 use Rattle.std.proofs.Common.{find, Option, Some, None, refl, ap, sym, ◌∙◌, arith, length-append, eqb-true}
 use Rattle.std.specs.Prelude.{nat_lt, option_map, option_to_list}
 use Rattle.std.specs.Option.{option_or}
-use Rattle.std.proofs.lemmas.Bool.{true≢false, and_parts, ltb-true, ne_eqb}
+use Rattle.std.proofs.lemmas.Bool.{and_parts, ltb-true, ne_eqb}
 use Rattle.std.proofs.lemmas.List.Elements.{filter-append}
 use Rattle.std.proofs.lemmas.List.Folds.{find-append}
 use Rattle.std.proofs.lemmas.Option.{same_Some}
+use Rattle.terms.proofs.CaseLemmas.{bool_cases}
 use Rattle.terms.proofs.OptionLemmas.{none_some}
 use Rattle.compare_run.specs.Comparing.{Answered}
 use Rattle.compare_run.specs.Runs.{kind, is_differing, is_same, is_one, single, in_front, runs_of, known, open_run}
-use Rattle.compare_run.specs.Runs.{goes_on, longer_by, single_open, next_open, single_known, told_by, first_differing}
+use Rattle.compare_run.specs.Runs.{goes_on, longer_by, next_open, told_by, first_differing}
 use Rattle.compare_run.specs.Runs.{counts_of, counted, one_if}
 use Rattle.compare_run.specs.declared.answer.Answer.{Answer}
 use Rattle.compare_run.specs.declared.counts.CompareRan.{CompareRan}
@@ -43,9 +44,6 @@ join y r = (y.frame + 1 == r.first) && is_one y.answer r.answer
 abbrev joined : Answered → Run → Run
 joined y r = record { first = y.frame; last = r.last; answer = y.answer }
 
-abbrev front_by : Bool → Answered → Run → List Run → List Run
-front_by j y r runs = cond j (joined y r ∷ runs) (single y ∷ r ∷ runs)
-
 abbrev push_by : Bool → Run → Answered → List Run
 push_by g r x = cond g (longer_by r x ∷ []) (r ∷ single x ∷ [])
 
@@ -62,26 +60,12 @@ joined_goes y r x e =
 front_push : (y : Answered) (runs : List Run) (x : Answered) → in_front y (push runs x) ≡ push (in_front y runs) x
 unfolding push
 front_push y [] x = refl
-front_push y (r ∷ []) x = go (goes_on r x) (join y r) refl refl
-  where
-    go : (g j : Bool) → goes_on r x ≡ g → join y r ≡ j → in_front y (push_by g r x) ≡ push (front_by j y r []) x
-    go true true a b =
-        ap (λ (t : Bool). front_by t y (longer_by r x) []) b
-        ∙ sym (ap (λ (t : Bool). push_by t (joined y r) x) (joined_goes y r x b ∙ a))
-    go true false a b =
-        ap (λ (t : Bool). front_by t y (longer_by r x) []) b
-        ∙ sym (ap (λ (t : Bool). single y ∷ push_by t r x) a)
-    go false true a b =
-        ap (λ (t : Bool). front_by t y r (single x ∷ [])) b
-        ∙ sym (ap (λ (t : Bool). push_by t (joined y r) x) (joined_goes y r x b ∙ a))
-    go false false a b =
-        ap (λ (t : Bool). front_by t y r (single x ∷ [])) b
-        ∙ sym (ap (λ (t : Bool). single y ∷ push_by t r x) a)
-front_push y (r ∷ s ∷ runs) x = go (join y r)
-  where
-    go : (j : Bool) → front_by j y r (push (s ∷ runs) x) ≡ push (front_by j y r (s ∷ runs)) x
-    go true = refl
-    go false = refl
+front_push y (r ∷ []) x =
+    bool_cases (join y r)
+    (λ b. let same = joined_goes y r x b in
+    bool_cases (goes_on r x) (λ a. rw (a, b, same, a)) (λ a. rw (a, b, same, a)))
+    (λ b. bool_cases (goes_on r x) (λ a. rw (a, b, a)) (λ a. rw (a, b, a)))
+front_push y (r ∷ s ∷ runs) x = bool_cases (join y r) (λ b. rw b) (λ b. rw b)
 
 runs_push : (xs : List Answered) (x : Answered) → runs_of (xs ++ x ∷ []) ≡ push (runs_of xs) x
 unfolding push
@@ -93,59 +77,35 @@ runs_push (y ∷ xs) x = ap (in_front y) (runs_push xs x) ∙ front_push y (runs
 goes_alike : (r : Run) (x : Answered) → goes_on r x ≡ true → is_differing r.answer ≡ false
 goes_alike r x e = one_alike r.answer x.answer (and_parts (r.last + 1 == x.frame) (is_one r.answer x.answer) e).1
 
-abbrev known_by : Bool → Run → List Run
-known_by d r = cond d (r ∷ []) []
-
 abbrev open_by : Bool → Run → Option Run
 open_by d r = cond d None (Some r)
 
 known_more : (r s : Run) (runs : List Run) (x : Answered) → known (r ∷ push (s ∷ runs) x) ≡ r ∷ known
     (push (s ∷ runs) x)
 unfolding push
-known_more r s [] x = go (goes_on s x)
-  where
-    go : (g : Bool) → known (r ∷ push_by g s x) ≡ r ∷ known (push_by g s x)
-    go true = refl
-    go false = refl
+known_more r s [] x = bool_cases (goes_on s x) (λ a. rw a) (λ a. rw a)
 known_more r s (t ∷ runs) x = refl
 
 open_more : (r s : Run) (runs : List Run) (x : Answered) → open_run (r ∷ push (s ∷ runs) x) ≡ open_run
     (push (s ∷ runs) x)
 unfolding push
-open_more r s [] x = go (goes_on s x)
-  where
-    go : (g : Bool) → open_run (r ∷ push_by g s x) ≡ open_run (push_by g s x)
-    go true = refl
-    go false = refl
+open_more r s [] x = bool_cases (goes_on s x) (λ a. rw a) (λ a. rw a)
 open_more r s (t ∷ runs) x = refl
 
 known_push : (runs : List Run) (x : Answered) → known (push runs x) ≡ known runs ++ told_by (open_run runs) x
 unfolding push
 known_push [] x = refl
-known_push (r ∷ []) x = go (goes_on r x) (is_differing r.answer) refl refl
-  where
-    go : (g d : Bool) → goes_on r x ≡ g → is_differing r.answer ≡ d
-        → known (push_by g r x) ≡ known_by d r ++ told_by (open_by d r) x
-    go true true a b = absurd (true≢false (sym b ∙ goes_alike r x a))
-    go true false a b =
-        ap (λ (t : Bool). known_by t (longer_by r x)) b ∙ sym (ap (λ (t : Bool). cond t [] (r ∷ single_known x)) a)
-    go false true a b = refl
-    go false false a b = sym (ap (λ (t : Bool). cond t [] (r ∷ single_known x)) a)
+known_push (r ∷ []) x =
+    bool_cases (goes_on r x) (λ a. rw (a, goes_alike r x a, a))
+    (λ a. bool_cases (is_differing r.answer) (λ b. rw (a, b)) (λ b. rw (a, b, a)))
 known_push (r ∷ s ∷ runs) x = known_more r s runs x ∙ ap (λ (l : List Run). r ∷ l) (known_push (s ∷ runs) x)
 
 open_push : (runs : List Run) (x : Answered) → open_run (push runs x) ≡ next_open (open_run runs) x
 unfolding push
 open_push [] x = refl
-open_push (r ∷ []) x = go (goes_on r x) (is_differing r.answer) refl refl
-  where
-    go : (g d : Bool) → goes_on r x ≡ g → is_differing r.answer ≡ d
-        → open_run (push_by g r x) ≡ next_open (open_by d r) x
-    go true true a b = absurd (true≢false (sym b ∙ goes_alike r x a))
-    go true false a b =
-        ap (λ (t : Bool). open_by t (longer_by r x)) b
-        ∙ sym (ap (λ (t : Bool). cond t (Some (longer_by r x)) (single_open x)) a)
-    go false true a b = refl
-    go false false a b = sym (ap (λ (t : Bool). cond t (Some (longer_by r x)) (single_open x)) a)
+open_push (r ∷ []) x =
+    bool_cases (goes_on r x) (λ a. rw (a, goes_alike r x a, a))
+    (λ a. bool_cases (is_differing r.answer) (λ b. rw (a, b)) (λ b. rw (a, b, a)))
 open_push (r ∷ s ∷ runs) x = open_more r s runs x ∙ open_push (s ∷ runs) x
 
 -- one that may go on does not differ
@@ -169,24 +129,14 @@ open_behind xs x = ap open_run (runs_push xs x) ∙ open_push (runs_of xs) x
 -- so all are told at the end
 pub all_told : (runs : List Run) → runs ≡ known runs ++ option_to_list (open_run runs)
 all_told [] = refl
-all_told (r ∷ []) = go (is_differing r.answer)
-  where
-    go : (d : Bool) → r ∷ [] ≡ known_by d r ++ option_to_list (open_by d r)
-    go true = refl
-    go false = refl
+all_told (r ∷ []) = bool_cases (is_differing r.answer) (λ b. rw b) (λ b. rw b)
 all_told (r ∷ s ∷ runs) = ap (λ (l : List Run). r ∷ l) (all_told (s ∷ runs))
 
 -- ---- numbers
 
 one_more : {X : Type 0} (p : X → Bool) (xs : List X) (x : X) → length (filter p (xs ++ x ∷ [])) ≡ length
     (filter p xs) + one_if (p x)
-one_more p xs x =
-    ap length (filter-append p xs (x ∷ [])) ∙ length-append (filter p xs) (filter p (x ∷ []))
-    ∙ ap (λ (n : ℕ). length (filter p xs) + n) (go (p x))
-  where
-    go : (b : Bool) → length (cond b (x ∷ []) []) ≡ one_if b
-    go true = refl
-    go false = refl
+one_more p xs x = simp (filter-append, length-append) (bool_cases (p x) (λ b. rw b) (λ b. rw b))
 
 first_more : (xs : List Answered) (x : Answered)
     → first_differing (xs ++ x ∷ []) ≡ option_or (first_differing xs) (cond (is_differing x.answer) (Some x.frame) None)

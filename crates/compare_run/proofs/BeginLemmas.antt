@@ -1,6 +1,6 @@
 -- The records of the least number are left behind, and its frame is compared; or no more come.
 use Rattle.std.proofs.Common.{◌≡◌, ℕ, ◌+◌, ◌-◌, ◌*◌, ◌^◌, ◌<◌, ◌≤◌, Bool, true, false, cond, List, [], ◌∷◌, ◌++◌}
-use Rattle.std.proofs.Common.{length, max, Option, Some, None, refl, ap, ap₂, sym, subst, ◌∙◌, arith}
+use Rattle.std.proofs.Common.{length, Option, Some, None, refl, ap, ap₂, sym, subst, ◌∙◌, arith}
 use Rattle.std.proofs.Common.{length-append, append-nil, append_assoc}
 use Rattle.std.specs.Prelude.{option_map, option_to_list}
 use Rattle.std.proofs.lemmas.Bool.{true≢false}
@@ -20,10 +20,10 @@ use Rattle.feed_merge.specs.declared.feed.FrameFeed.{FrameFeed}
 use Rattle.feed_merge.specs.Picking.{is_at}
 use Rattle.feed_merge.specs.Picks.{above_all}
 use Rattle.feed_merge.specs.Both.{AreFedWith, IsDueBelow}
-use Rattle.feed_merge.specs.Fed.{IsFedWith, IsBehind}
+use Rattle.feed_merge.specs.Fed.{IsFedWith, IsBehind, NoneComes}
 use Rattle.feed_merge.specs.Reading.{is_idle, least_of}
 use Rattle.feed_merge.specs.Seen.{seen_of}
-use Rattle.feed_merge.specs.Skips.{one_if, Takes, SkipsIf}
+use Rattle.feed_merge.specs.Skips.{one_if, AreTaken, Takes, SkipsIf}
 use Rattle.feed_merge.proofs.EventLemmas.{gave_both}
 use Rattle.feed_merge.proofs.BothFeedLemmas.{took_behind}
 use Rattle.feed_merge.proofs.BothLemmas.{due_below}
@@ -43,12 +43,12 @@ use Rattle.compare_run.specs.declared.answer.Side.{Side}
 use Rattle.compare_run.specs.declared.answering.Carried.{Carried}
 use Rattle.compare_run.specs.declared.counts.CompareRan.{CompareRan}
 use Rattle.compare_run.specs.declared.tally.Tally.{Tally}
-use Rattle.compare_run.specs.Shown.{Shown, HasShown, IsTold, text_in, plps_from, untold}
+use Rattle.compare_run.specs.Shown.{Shown, HasShown, IsTold, text_in, plps_from}
 use Rattle.compare_run.specs.Steps.{left_of}
 use Rattle.compare_run.specs.Taking.{side_at, IsOfFeed}
 use Rattle.compare_run.specs.declared.machine.CompareMachine.{CompareMachine}
 use Rattle.compare_run.proofs.GrowLemmas.{before_more, none_of, all_below}
-use Rattle.compare_run.proofs.PlpLemmas.{no_plp, one_plp, now_untold, record_fewer}
+use Rattle.compare_run.proofs.PlpLemmas.{no_plp, one_plp, said_known, now_untold, record_fewer}
 use Rattle.compare_run.proofs.TakeLemmas.{side_is}
 
 -- ---- what becomes of both feeds
@@ -116,61 +116,89 @@ pub record Turns (m new : CompareMachine) (n : ℕ) (result : Answer) : Type 0 w
   pub last : new.last ≡ n
   pub plp : new.plp ≡ cond (is_differing result) 0 (plps_in new.carried)
 
-module _ (front : DueFront) (follow : DueFollow) (grow : AnswersGrow) (c : Config) (m : CompareMachine)
-    (a b : FrameFeed) (events : List Event)
-    (n : ℕ) (p q : Bool) (t : Takings m a b n p q) (s : Shown c events m) where
-  abbrev pub ta : Takes (is_at n (seen_of (waiting_of m.a))) m.a a (fed 0 events) (has_ended 0 events) s.given_a
-  ta = subst (λ (l : Bool). Takes l m.a a (fed 0 events) (has_ended 0 events) s.given_a) t.is_a
-      (t.took_a.takes (fed 0 events) (has_ended 0 events) s.given_a s.both.of_a.stands)
+-- ---- by the event
 
-  abbrev pub tb : Takes (is_at n (seen_of (waiting_of m.b))) m.b b (fed 1 events) (has_ended 1 events) s.given_b
-  tb = subst (λ (l : Bool). Takes l m.b b (fed 1 events) (has_ended 1 events) s.given_b) t.is_b
-      (t.took_b.takes (fed 1 events) (has_ended 1 events) s.given_b s.both.of_b.stands)
+-- groups of the streams are no others behind an event that feeds nothing
+pub groups_gave : EventsTell → (c : Config) (events : List Event) (input : ℕ) (line : List ℕ) (gs : List Numbered)
+    → AreGroups c (fed input (events ++ Gave line ∷ [])) (has_ended input (events ++ Gave line ∷ [])) gs
+    → AreGroups c (fed input events) (has_ended input events) gs
+groups_gave tell c events input line gs g =
+    let t = tell.given line events in rw (t.ended input, t.fed input) at g
 
-  abbrev pub xs : List FrameRecord
-  xs = ta.records
+due_gave : EventsTell → (c : Config) (low input : ℕ) (events : List Event) (line : List ℕ)
+    → IsDueBelow c low (fed input events)
+    → IsDueBelow c low (fed input (events ++ Gave line ∷ []))
+due_gave tell c low input events line due = rw ((tell.given line events).fed input) due
 
-  abbrev pub ys : List FrameRecord
-  ys = tb.records
+-- What becomes of one feed: a record was taken of it or none, and by groups of its stream no packet came of the frames
+-- between, nor of one of which no record waits.
+record OneSide (c : Config) (f g : FrameFeed) (bytes : List ℕ) (ended : Bool) (given : List FrameRecord) (next n : ℕ) :
+    Type 0 where
+  records : List FrameRecord
+  are : AreTaken (is_at n (seen_of (waiting_of f))) (waiting_of f) records
+  of : IsFedWith c g bytes ended (given ++ records)
+  behind : IsBehind (n + 1) g (given ++ records)
+  feeds : (gs : List Numbered) → AreGroups c bytes ended gs → IsOfFeed f gs
+  between : (gs : List Numbered) → AreGroups c bytes ended gs → NothingBetween gs next n
+  absent : (gs : List Numbered) → AreGroups c bytes ended gs → is_at n (seen_of (waiting_of f)) ≡ false
+      → packets_at gs n ≡ []
 
-  abbrev pub now_a : List FrameRecord
+one_side : DueFront → DueFollow → (c : Config) (f g : FrameFeed) (bytes : List ℕ) (ended : Bool)
+    (given : List FrameRecord) (next n : ℕ) (l : Bool) → l ≡ is_at n (seen_of (waiting_of f))
+    → is_idle (waiting_of f) (feed.has_ended f) ≡ false → ((w : Waiting) → waiting_of f ≡ Some w → n ≤ w.frame)
+    → SkipsIf l f g → IsFedWith c f bytes ended given → above_all given ≤ next → next ≤ n
+    → OneSide c f g bytes ended given next n
+one_side front follow c f g bytes ended given next n l is busy least took h above low =
+    let t : Takes (is_at n (seen_of (waiting_of f))) f g bytes ended given =
+    rw is at (took.takes bytes ended given h.stands) in
+    let now : IsFedWith c g bytes ended (given ++ t.records) =
+    record { network = took.same.network ∙ h.network; stands = t.stands } in
+    record {
+      records = t.records;
+      are = t.are;
+      of = now;
+      behind = took_behind follow c n f g bytes ended given busy least took.same.ended
+          (λ off. ap waiting_of (took.stays (is ∙ off))) t now;
+      feeds = λ gs are. record {
+        bytes = bytes;
+        ended = ended;
+        given = given;
+        stands = h.stands;
+        groups = rw h.network are;
+      };
+      between = λ gs are. nothing_between front follow c f _ _ given next n gs h above
+          (behind_busy n f given busy least) are;
+      absent = λ gs are off. nothing_between front follow c f _ _ given next (n + 1) gs h above
+          (behind_absent n f given busy least off) are n low (omega arith);
+    }
+
+module _ (tell : EventsTell) (front : DueFront) (follow : DueFollow) (grow : AnswersGrow) (c : Config)
+    (m new : CompareMachine) (events : List Event) (n : ℕ) (p q : Bool) (t : Takings m new.a new.b n p q)
+    (s : Shown c events m) where
+  low : m.next ≤ n
+  low = least_most (waiting_of m.a) (waiting_of m.b) n m.next t.least s.both.behind_a.waits s.both.behind_b.waits
+
+  side_a : OneSide c m.a new.a (fed 0 events) (has_ended 0 events) s.given_a m.next n
+  side_a = one_side front follow c m.a new.a _ _ s.given_a m.next n p t.is_a t.busy_a
+      (least_first (waiting_of m.a) (waiting_of m.b) n t.least) t.took_a s.both.of_a
+      (let is = s.both.next_is in omega (arith, is)) low
+
+  side_b : OneSide c m.b new.b (fed 1 events) (has_ended 1 events) s.given_b m.next n
+  side_b = one_side front follow c m.b new.b _ _ s.given_b m.next n q t.is_b t.busy_b
+      (least_second (waiting_of m.a) (waiting_of m.b) n t.least) t.took_b s.both.of_b
+      (let is = s.both.next_is in omega (arith, is)) low
+
+  abbrev xs : List FrameRecord
+  xs = side_a.records
+
+  abbrev ys : List FrameRecord
+  ys = side_b.records
+
+  abbrev now_a : List FrameRecord
   now_a = s.given_a ++ xs
 
-  abbrev pub now_b : List FrameRecord
+  abbrev now_b : List FrameRecord
   now_b = s.given_b ++ ys
-
-  pub of_a : IsFedWith c a (fed 0 events) (has_ended 0 events) now_a
-  of_a = record { network = t.took_a.same.network ∙ s.both.of_a.network; stands = ta.stands }
-
-  pub of_b : IsFedWith c b (fed 1 events) (has_ended 1 events) now_b
-  of_b = record { network = t.took_b.same.network ∙ s.both.of_b.network; stands = tb.stands }
-
-  least_a : (w : Waiting) → waiting_of m.a ≡ Some w → n ≤ w.frame
-  least_a = least_first (waiting_of m.a) (waiting_of m.b) n t.least
-
-  least_b : (w : Waiting) → waiting_of m.b ≡ Some w → n ≤ w.frame
-  least_b = least_second (waiting_of m.a) (waiting_of m.b) n t.least
-
-  pub behind_a : IsBehind (n + 1) a now_a
-  behind_a = took_behind follow c n m.a a _ _ s.given_a t.busy_a least_a t.took_a.same.ended
-      (λ off. ap waiting_of (t.took_a.stays (t.is_a ∙ off))) ta of_a
-
-  pub behind_b : IsBehind (n + 1) b now_b
-  behind_b = took_behind follow c n m.b b _ _ s.given_b t.busy_b least_b t.took_b.same.ended
-      (λ off. ap waiting_of (t.took_b.stays (t.is_b ∙ off))) tb of_b
-
-  pub next_low : m.next ≤ n
-  next_low = least_most (waiting_of m.a) (waiting_of m.b) n m.next t.least s.both.behind_a.waits s.both.behind_b.waits
-
-  pub next_now : n + 1 ≡ max (above_all now_a) (above_all now_b)
-  next_now = next_taken (waiting_of m.a) (waiting_of m.b) n m.next s.given_a s.given_b xs ys t.least
-      next_low s.both.next_is ta.are tb.are
-
-  above_a : above_all s.given_a ≤ m.next
-  above_a = let w = s.both.next_is in omega (arith, w)
-
-  above_b : above_all s.given_b ≤ m.next
-  above_b = let w = s.both.next_is in omega (arith, w)
 
   -- ---- by the groups of two streams
 
@@ -180,45 +208,15 @@ module _ (front : DueFront) (follow : DueFollow) (grow : AnswersGrow) (c : Confi
     told = s.told ga gb are_a are_b
 
     feed_a : IsOfFeed m.a ga
-    feed_a = record {
-      bytes = fed 0 events;
-      ended = has_ended 0 events;
-      given = s.given_a;
-      stands = s.both.of_a.stands;
-      groups = subst (λ (k : Config). AreGroups k (fed 0 events) (has_ended 0 events) ga) (sym s.both.of_a.network)
-          are_a;
-    }
+    feed_a = side_a.feeds ga are_a
 
     feed_b : IsOfFeed m.b gb
-    feed_b = record {
-      bytes = fed 1 events;
-      ended = has_ended 1 events;
-      given = s.given_b;
-      stands = s.both.of_b.stands;
-      groups = subst (λ (k : Config). AreGroups k (fed 1 events) (has_ended 1 events) gb) (sym s.both.of_b.network)
-          are_b;
-    }
+    feed_b = side_b.feeds gb are_b
 
-    -- of the frames between no packet came
-    between_a : NothingBetween ga m.next n
-    between_a = nothing_between front follow c m.a _ _ s.given_a m.next n ga s.both.of_a above_a
-        (behind_busy n m.a s.given_a t.busy_a least_a) are_a
-
-    between_b : NothingBetween gb m.next n
-    between_b = nothing_between front follow c m.b _ _ s.given_b m.next n gb s.both.of_b above_b
-        (behind_busy n m.b s.given_b t.busy_b least_b) are_b
-
-    -- nor of one of which no record waits
-    absent_a : is_at n (seen_of (waiting_of m.a)) ≡ false → packets_at ga n ≡ []
-    absent_a off = nothing_between front follow c m.a _ _ s.given_a m.next (n + 1) ga s.both.of_a above_a
-        (behind_absent n m.a s.given_a t.busy_a least_a off) are_a n next_low (omega arith)
-
-    absent_b : is_at n (seen_of (waiting_of m.b)) ≡ false → packets_at gb n ≡ []
-    absent_b off = nothing_between front follow c m.b _ _ s.given_b m.next (n + 1) gb s.both.of_b above_b
-        (behind_absent n m.b s.given_b t.busy_b least_b off) are_b n next_low (omega arith)
-
-    pub carried_now : (new : Carried) → Notes m new c n → CarriedStandsFor new c (n + 1) ga gb
-    carried_now new notes = notes ga gb told.carried feed_a feed_b absent_a absent_b between_a between_b
+    carried_now : (new : Carried) → Notes m new c n → CarriedStandsFor new c (n + 1) ga gb
+    carried_now new notes =
+        notes ga gb told.carried feed_a feed_b (side_a.absent ga are_a) (side_b.absent gb are_b)
+        (side_a.between ga are_a) (side_b.between gb are_b)
 
     abbrev was_said : List Answered
     was_said = answers c (frames_by s.given_a ga) (frames_by s.given_b gb)
@@ -229,18 +227,17 @@ module _ (front : DueFront) (follow : DueFollow) (grow : AnswersGrow) (c : Confi
     grown : now_said ≡ was_said ++ option_to_list (answered_at c (frames_by xs ga) (frames_by ys gb) n)
     grown =
         let was = s.both.next_is in
-        let low = next_low in
         grow c ga gb s.given_a s.given_b xs ys n (below_of n s.given_a (omega (arith, was, low)))
         (below_of n s.given_b (omega (arith, was, low)))
-        (are_of (waiting_of m.a) n xs ta.are) (are_of (waiting_of m.b) n ys tb.are)
+        (are_of (waiting_of m.a) n xs side_a.are) (are_of (waiting_of m.b) n ys side_b.are)
 
     -- what both sides are to each other is what the call says of them
     answer_is : (new : Carried) (result : Answer) → Notes m new c n → AnswersBy m new c n result
         → Some result ≡ sides_answer (side_of (record_at n xs)) (side_of (record_at n ys)) (whole_answer c n ga gb)
     answer_is new result notes says =
         says ga gb (carried_now new notes) feed_a feed_b
-        ∙ ap₂ (λ (x y : Side). sides_answer x y (whole_answer c n ga gb)) (sym (side_is n (waiting_of m.a) xs ta.are))
-        (sym (side_is n (waiting_of m.b) ys tb.are))
+        ∙ ap₂ (λ (x y : Side). sides_answer x y (whole_answer c n ga gb))
+        (sym (side_is n (waiting_of m.a) xs side_a.are)) (sym (side_is n (waiting_of m.b) ys side_b.are))
 
     -- so the frame is told
     now_is : (result : Answer) → Some result ≡ sides_answer (side_of (record_at n xs)) (side_of (record_at n ys))
@@ -254,34 +251,29 @@ module _ (front : DueFront) (follow : DueFollow) (grow : AnswersGrow) (c : Confi
 
     -- all of the frames before is said
     was : plps_in m.carried ≤ m.plp → m.done ≡ false → gave events ≡ known_text of was_said
-    was over going =
-        sym (append-nil (gave events))
-        ∙ ap (λ (l : List ℕ). gave events ++ l) (sym (no_plp c m.carried m.last m.plp over))
-        ∙ told.said_is ∙ ap (λ (d : Bool). text_in d of was_said) going
+    was = said_known c m told
 
     -- they are those below this one
     before : answers_below c (frames_by now_a ga) (frames_by now_b gb) n ≡ was_said
     before =
         let is = s.both.next_is in
-        let low = next_low in
         before_more c ga gb s.given_a s.given_b xs ys n
-        (λ k lt. none_of n k xs (are_of (waiting_of m.a) n xs ta.are) lt)
-        (λ k lt. none_of n k ys (are_of (waiting_of m.b) n ys tb.are) lt)
+        (λ k lt. none_of n k xs (are_of (waiting_of m.a) n xs side_a.are) lt)
+        (λ k lt. none_of n k ys (are_of (waiting_of m.b) n ys side_b.are) lt)
         ∙ sym (all_below c ga gb s.given_a s.given_b n (below_of n s.given_a (omega (arith, is, low)))
         (below_of n s.given_b (omega (arith, is, low))))
 
-    pub told_now : (new : CompareMachine) (result : Answer) (line : List ℕ) → plps_in m.carried ≤ m.plp → m.done ≡ false
+    told_now : (result : Answer) (line : List ℕ) → plps_in m.carried ≤ m.plp → m.done ≡ false
         → Turns m new n result → Notes m new.carried c n → AnswersBy m new.carried c n result
         → OthersBy m new.carried c n result
         → Tallies m.tally new.tally n result line → IsTold c new now_a now_b n (gave events ++ line) ga gb
-    told_now new result line over going turns notes says others tallies =
+    told_now result line over going turns notes says others tallies =
         let now = now_is result (answer_is new.carried result notes says) in
-        let low = next_low in
         let next = turns.next in
         let noted = carried_now new.carried notes in
         record {
-          carried = subst (λ (k : ℕ). CarriedStandsFor new.carried c k ga gb) (sym next) noted;
-          tallied = subst (TallyStandsFor new.tally) (sym now) (tallies.0 was_said told.tallied);
+          carried = rw next noted;
+          tallied = rw now (tallies.0 was_said told.tallied);
           few = (let l = ap length now in let w = told.few in
               omega (arith, next, l, length-append was_said (answered n result ∷ []), w, low));
           said_is = ap₂ (λ (x y : List ℕ). x ++ line ++ y) (was over going)
@@ -292,56 +284,39 @@ module _ (front : DueFront) (follow : DueFollow) (grow : AnswersGrow) (c : Confi
           since = (line, ap (λ (l : List ℕ). l ++ line) (was over going ∙ ap (known_text of) (sym before)));
         }
 
--- ---- by the event
-
--- groups of the streams are no others behind an event that feeds nothing
-pub groups_gave : EventsTell → (c : Config) (events : List Event) (input : ℕ) (line : List ℕ) (gs : List Numbered)
-    → AreGroups c (fed input (events ++ Gave line ∷ [])) (has_ended input (events ++ Gave line ∷ [])) gs
-    → AreGroups c (fed input events) (has_ended input events) gs
-groups_gave tell c events input line gs g =
-    let t = tell.given line events in
-    subst (λ (e : Bool). AreGroups c (fed input events) e gs) (t.ended input)
-    (subst (λ (l : List ℕ). AreGroups c l (has_ended input (events ++ Gave line ∷ [])) gs) (t.fed input) g)
-
-pub shown_compared : EventsTell → DueFront → DueFollow → AnswersGrow
-    → (c : Config) (m new : CompareMachine) (events : List Event) (n : ℕ)
-    (p q : Bool) (t : Takings m new.a new.b n p q) (s : Shown c events m) (result : Answer) → Turns m new n result
-    → plps_in m.carried ≤ m.plp → m.done ≡ false → n < MOST_FRAMES → Notes m new.carried c n
-    → AnswersBy m new.carried c n result
-    → OthersBy m new.carried c n result → (line : List ℕ) → Tallies m.tally new.tally n result line
-    → Shown c (events ++ Gave line ∷ []) new
-shown_compared tell front follow grow c m new events n p q t s result turns over going few notes says plps line told =
-    let next = turns.next in
-    let is = s.both.next_is in
-    let low = next_low front follow grow c m new.a new.b events n p q t s in
-    let xs : List FrameRecord = now_a front follow grow c m new.a new.b events n p q t s in
-    let ys : List FrameRecord = now_b front follow grow c m new.a new.b events n p q t s in
-    record {
-      config = turns.plan ∙ s.config;
-      plps = turns.plps ∙ s.plps;
-      given_a = xs;
-      given_b = ys;
-      both = gave_both tell c events line false false new.next new.a new.b xs ys
-          (subst (λ (k : ℕ). AreFedWith c events false false k new.a new.b xs ys) (sym next) (record {
-            of_a = of_a front follow grow c m new.a new.b events n p q t s;
-            of_b = of_b front follow grow c m new.a new.b events n p q t s;
-            behind_a = behind_a front follow grow c m new.a new.b events n p q t s;
-            behind_b = behind_b front follow grow c m new.a new.b events n p q t s;
-            next_is = next_now front follow grow c m new.a new.b events n p q t s;
-            early = omega (arith, few);
-          }));
-      low = n;
-      few = omega (arith, next);
-      due_a = subst (IsDueBelow c n) (sym ((tell.given line events).fed 0))
-          (due_below c m.a (fed 0 events) (has_ended 0 events) s.given_a n (omega (arith, is, low)) s.both.of_a);
-      due_b = subst (IsDueBelow c n) (sym ((tell.given line events).fed 1))
-          (due_below c m.b (fed 1 events) (has_ended 1 events) s.given_b n (omega (arith, is, low)) s.both.of_b);
-      told = λ ga gb are_a are_b.
-          subst (λ (l : List ℕ). IsTold c new xs ys n l ga gb) (sym (tell.given line events).gave)
-          (told_now front follow grow c m new.a new.b events n p q t s ga gb (groups_gave tell c events 0 line ga are_a)
-          (groups_gave tell c events 1 line gb are_b) new result line over going turns notes says plps told);
-      over = λ on. absurd (true≢false (sym on ∙ turns.done ∙ going));
-    }
+  pub shown_compared : (result : Answer) → Turns m new n result → plps_in m.carried ≤ m.plp → m.done ≡ false
+      → n < MOST_FRAMES → Notes m new.carried c n → AnswersBy m new.carried c n result
+      → OthersBy m new.carried c n result → (line : List ℕ) → Tallies m.tally new.tally n result line
+      → Shown c (events ++ Gave line ∷ []) new
+  shown_compared result turns over going few notes says plps line told =
+      let next = turns.next in
+      let is = s.both.next_is in
+      let both = subst (λ (k : ℕ). AreFedWith c events false false k new.a new.b now_a now_b) (sym next) (record {
+        of_a = side_a.of;
+        of_b = side_b.of;
+        behind_a = side_a.behind;
+        behind_b = side_b.behind;
+        next_is = next_taken (waiting_of m.a) (waiting_of m.b) n m.next s.given_a s.given_b xs ys t.least
+            low is side_a.are side_b.are;
+        early = omega (arith, few);
+      }) in
+      record {
+        config = turns.plan ∙ s.config;
+        plps = turns.plps ∙ s.plps;
+        given_a = now_a;
+        given_b = now_b;
+        both = gave_both tell c events line false false new.next new.a new.b now_a now_b both;
+        low = n;
+        few = omega (arith, next);
+        due_a = due_gave tell c n 0 events line
+            (due_below c m.a (fed 0 events) (has_ended 0 events) s.given_a n (omega (arith, is, low)) s.both.of_a);
+        due_b = due_gave tell c n 1 events line
+            (due_below c m.b (fed 1 events) (has_ended 1 events) s.given_b n (omega (arith, is, low)) s.both.of_b);
+        told = λ ga gb are_a are_b. rw (tell.given line events).gave
+            (told_now ga gb (groups_gave tell c events 0 line ga are_a) (groups_gave tell c events 1 line gb are_b)
+            result line over going turns notes says plps told);
+        over = λ on. absurd (true≢false (sym on ∙ turns.done ∙ going));
+      }
 
 -- how often a machine gives that has not ended
 left_going : (m : CompareMachine) → m.done ≡ false
@@ -402,17 +377,15 @@ pub prefix_more : (tell : EventsTell) (events : List Event) (line text : List �
 prefix_more tell events line text p =
     (p.0 ++ line, (tell.given line events).gave ∙ ap (λ (l : List ℕ). l ++ line) p.1 ∙ append_assoc text p.0 line)
 
-due_gave : EventsTell → (c : Config) (low input : ℕ) (events : List Event) (line : List ℕ)
-    → IsDueBelow c low (fed input events)
-    → IsDueBelow c low (fed input (events ++ Gave line ∷ []))
-due_gave tell c low input events line due = subst (IsDueBelow c low) (sym ((tell.given line events).fed input)) due
-
--- ---- a PLP is told
-
-pub shown_told : EventsTell → (c : Config) (m : CompareMachine) (events : List Event) (line : List ℕ) → Shown c events m
-    → m.plp < plps_in m.carried → line ≡ plp_text c m.last m.plp (other_in m.carried m.plp)
-    → Shown c (events ++ Gave line ∷ []) (record m { plp = m.plp + 1 })
-shown_told tell c m events line s lt is = record {
+-- Of what is left to say this was said, and nothing else was done.
+shown_gave : EventsTell → (c : Config) (m : CompareMachine) (events : List Event) (line : List ℕ)
+    (s : Shown c events m) (plp : ℕ) (done : Bool)
+    → ((ga gb : List Numbered) → IsTold c m s.given_a s.given_b s.low (gave events) ga gb
+    → (gave events ++ line) ++ plps_from c m.carried m.last plp
+    ≡ text_in done (plp_differences c ga gb) (answers c (frames_by s.given_a ga) (frames_by s.given_b gb)))
+    → (done ≡ true → NoneComes m.a × NoneComes m.b)
+    → Shown c (events ++ Gave line ∷ []) (record m { plp = plp; done = done })
+shown_gave tell c m events line s plp done said over = record {
   config = s.config;
   plps = s.plps;
   given_a = s.given_a;
@@ -424,19 +397,29 @@ shown_told tell c m events line s lt is = record {
   due_b = due_gave tell c s.low 1 events line s.due_b;
   told = λ ga gb are_a are_b.
       let t = s.told ga gb (groups_gave tell c events 0 line ga are_a) (groups_gave tell c events 1 line gb are_b) in
-      let rest : List ℕ = plps_from c m.carried m.last (m.plp + 1) in
       record {
         carried = t.carried;
         tallied = t.tallied;
         few = t.few;
-        said_is = ap (λ (l : List ℕ). l ++ rest) (tell.given line events).gave ∙ append_assoc (gave events) line rest
-            ∙ ap (λ (l : List ℕ). gave events ++ l)
-            (ap (λ (l : List ℕ). l ++ rest) is ∙ sym (one_plp c m.carried m.last m.plp lt))
-            ∙ t.said_is;
+        said_is = rw (tell.given line events).gave (said ga gb t);
         since = prefix_more tell events line _ t.since;
       };
-  over = s.over;
+  over = over;
 }
+
+-- ---- a PLP is told
+
+pub shown_told : EventsTell → (c : Config) (m : CompareMachine) (events : List Event) (line : List ℕ) → Shown c events m
+    → m.plp < plps_in m.carried → line ≡ plp_text c m.last m.plp (other_in m.carried m.plp)
+    → Shown c (events ++ Gave line ∷ []) (record m { plp = m.plp + 1 })
+shown_told tell c m events line s lt is =
+    let rest : List ℕ = plps_from c m.carried m.last (m.plp + 1) in
+    shown_gave tell c m events line s (m.plp + 1) m.done
+    (λ ga gb t.
+    append_assoc (gave events) line rest
+    ∙ ap (λ (l : List ℕ). gave events ++ l)
+    (ap (λ (l : List ℕ). l ++ rest) is ∙ sym (one_plp c m.carried m.last m.plp lt))
+    ∙ t.said_is) s.over
 
 -- ---- no more frames come
 
@@ -450,41 +433,9 @@ pub shown_finished : EventsTell → (c : Config) (m : CompareMachine) (events : 
     → Shown c (events ++ Gave line ∷ []) (record m { done = true })
 shown_finished tell c m events line s over going least busy_a busy_b says =
     let none = least_none (waiting_of m.a) (waiting_of m.b) least in
-    record {
-      config = s.config;
-      plps = s.plps;
-      given_a = s.given_a;
-      given_b = s.given_b;
-      both = gave_both tell c events line false false m.next m.a m.b s.given_a s.given_b s.both;
-      low = s.low;
-      few = s.few;
-      due_a = due_gave tell c s.low 0 events line s.due_a;
-      due_b = due_gave tell c s.low 1 events line s.due_b;
-      told = λ ga gb are_a are_b.
-          let t = s.told ga gb (groups_gave tell c events 0 line ga are_a)
-          (groups_gave tell c events 1 line gb are_b) in
-          let xs : List Answered = answers c (frames_by s.given_a ga) (frames_by s.given_b gb) in
-          let of : ℕ → List PlpDifference = plp_differences c ga gb in
-          let nothing : untold c m ≡ [] = no_plp c m.carried m.last m.plp over in
-          record {
-            carried = t.carried;
-            tallied = t.tallied;
-            few = t.few;
-            said_is = ap₂ (λ (x y : List ℕ). x ++ y) (tell.given line events).gave nothing
-                ∙ append-nil (gave events ++ line)
-                ∙ ap (λ (l : List ℕ). l ++ line)
-                (sym (append-nil (gave events)) ∙ ap (λ (l : List ℕ). gave events ++ l) (sym nothing)
-                ∙ t.said_is ∙ ap (λ (d : Bool). text_in d of xs) going)
-                ∙ sym (says of xs t.tallied);
-            since = prefix_more tell events line _ t.since;
-          };
-      over = λ _. (none_comes m.a none.0 busy_a, none_comes m.b none.1 busy_b);
-    }
-
-pub left_finished : (m : CompareMachine) → m.done ≡ false → left_of (record m { done = true }) < left_of m
-left_finished m going =
-    let was = left_going m going in
-    let less =
-    record_fewer 0 (feed.left_of m.a + feed.left_of m.b + 1) (plps_in m.carried) (plps_in m.carried - m.plp)
-    (omega arith) (omega arith) in
-    omega (arith, was, less)
+    shown_gave tell c m events line s m.plp true
+    (λ ga gb t.
+    ap (λ (l : List ℕ). (gave events ++ line) ++ l) (no_plp c m.carried m.last m.plp over)
+    ∙ append-nil (gave events ++ line) ∙ ap (λ (l : List ℕ). l ++ line) (said_known c m t over going)
+    ∙ sym (says (plp_differences c ga gb) _ t.tallied))
+    (λ _. (none_comes m.a none.0 busy_a, none_comes m.b none.1 busy_b))

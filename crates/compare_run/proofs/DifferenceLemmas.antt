@@ -15,8 +15,7 @@ use Rattle.compare_run.specs.AnswerLaws.{DifferFirst, OthersAreFirst, SameHasNon
 use Rattle.compare_run.specs.Comparing.{carried, dynamic_at, same_bits, first_other, first_some, other_by, one_later}
 use Rattle.compare_run.specs.Comparing.{place_in, block_place, place_of, place_answer}
 use Rattle.compare_run.specs.Comparing.{PlpDifference, difference, difference_in, differing, plp_differences}
-use Rattle.compare_run.specs.declared.answer.Answer.{Answer}
-use Rattle.compare_run.specs.declared.answer.Answer.TheVariants.{Same, MutedA, MutedB, MutedBoth, OnlyA, OnlyB, Differs}
+use Rattle.compare_run.specs.declared.answer.Answer.TheVariants.{Same, Differs}
 use Rattle.compare_run.specs.declared.answer.Other.{Other}
 use Rattle.compare_run.specs.declared.answer.Place.{Place}
 use Rattle.compare_run.specs.declared.answer.Place.TheVariants.{L1, Block}
@@ -78,25 +77,25 @@ module _ (c : Config) (other : ℕ → Option Other) where
   abbrev found : List ℕ → Option Place
   found plps = first_some (λ plp. option_map (place_in c plp) (other plp)) plps
 
-  no_first : (plps : List ℕ) → found plps ≡ None → differing c other plps ≡ []
-  no_first [] e = refl
-  no_first (plp ∷ plps) e = go (other plp) e (λ h. no_first plps h)
-    where
-      go : (o : Option Other) → option_or (option_map (place_in c plp) o) (found plps) ≡ None
-          → (found plps ≡ None → differing c other plps ≡ [])
-          → option_to_list (option_map (difference_in c plp) o) ++ differing c other plps ≡ []
-      go None e later = later e
-      go (Some o) e later = none_some (place_in c plp o) (sym e)
+  -- no place is found exactly where no difference is
+  abbrev NoneDiffer : List ℕ → Type 0
+  NoneDiffer plps =
+      (found plps ≡ None → differing c other plps ≡ []) × (differing c other plps ≡ [] → found plps ≡ None)
 
-  no_differing : (plps : List ℕ) → differing c other plps ≡ [] → found plps ≡ None
-  no_differing [] e = refl
-  no_differing (plp ∷ plps) e = go (other plp) e (λ h. no_differing plps h)
+  none_differ : (plps : List ℕ) → NoneDiffer plps
+  none_differ [] = ((λ e. refl), (λ e. refl))
+  none_differ (plp ∷ plps) = go (other plp) (none_differ plps)
     where
-      go : (o : Option Other) → option_to_list (option_map (difference_in c plp) o) ++ differing c other plps ≡ []
-          → (differing c other plps ≡ [] → found plps ≡ None)
-          → option_or (option_map (place_in c plp) o) (found plps) ≡ None
-      go None e later = later e
-      go (Some o) e later = absurd (let n = ap length e in omega (arith, n))
+      go : (o : Option Other) → NoneDiffer plps
+          → (option_or (option_map (place_in c plp) o) (found plps) ≡ None
+          → option_to_list (option_map (difference_in c plp) o) ++ differing c other plps ≡ [])
+          × (option_to_list (option_map (difference_in c plp) o) ++ differing c other plps ≡ []
+          → option_or (option_map (place_in c plp) o) (found plps) ≡ None)
+      go None later = later
+      go (Some o) later = (
+        (λ e. none_some (place_in c plp o) (sym e)),
+        (λ e. absurd (let n = ap length e in omega (arith, n))),
+      )
 
   -- The first of these differences is of a PLP, and at a block.
   abbrev HasFirst : List PlpDifference → ℕ → ℕ → Type 0
@@ -108,26 +107,16 @@ module _ (c : Config) (other : ℕ → Option Other) where
   has_first [] id number e = none_some (Block id number) e
   has_first (plp ∷ plps) id number e = go (other plp) e (λ h. has_first plps id number h)
     where
-      id_in : Place → ℕ
-      id_in (Block i k) = i
-      id_in L1 = 0
-
-      number_in : Place → ℕ
-      number_in (Block i k) = k
-      number_in L1 = 0
-
       go : (o : Option Other) → option_or (option_map (place_in c plp) o) (found plps) ≡ Some (Block id number)
           → (found plps ≡ Some (Block id number) → HasFirst (differing c other plps) id number)
           → HasFirst (option_to_list (option_map (difference_in c plp) o) ++ differing c other plps) id number
       go None e later = later e
       go (Some o) e later =
-          let same : place_in c plp o ≡ Block id number = same_Some (place_in c plp o) (Block id number) e in
-          let own : (plp_at c.plps plp).id ≡ id = ap id_in same in (
-            o,
-            differing c other plps,
-            ap (λ (i : ℕ). difference i o ∷ differing c other plps) own,
-            ap number_in same,
-          )
+          let same : Block (plp_at c.plps plp).id o.number ≡ Block id number =
+          same_Some (place_in c plp o) (Block id number) e in
+          let own : (plp_at c.plps plp).id ≡ id = cc in
+          let count : o.number ≡ number = cc in
+          (o, differing c other plps, ap (λ (i : ℕ). difference i o ∷ differing c other plps) own, count)
 
 -- ---- two frames
 
@@ -146,23 +135,14 @@ same_has_none c ga gb n = (
   λ e.
       let none = none_placed (place_of c n ga gb) e in
       let same = (same_parts c n ga gb none).0 in
-      (same, no_first c (others c ga gb n) (places c) (sym (by_blocks c n ga gb same) ∙ none)),
-  λ p. ap place_answer (by_blocks c n ga gb p.0 ∙ no_differing c (others c ga gb n) (places c) p.1),
+      (same, (none_differ c (others c ga gb n) (places c)).0 (sym (by_blocks c n ga gb same) ∙ none)),
+  λ p. ap place_answer (by_blocks c n ga gb p.0 ∙ (none_differ c (others c ga gb n) (places c)).1 p.1),
 )
 
 -- the place of a frame that differs
 placed_at : (p : Option Place) (at : Place) → place_answer p ≡ Differs at → p ≡ Some at
 placed_at None at e = absurd (let z : Same ≡ Differs at = e in cc)
-placed_at (Some other) at e = ap (λ (a : Answer). Some (place_in_answer a)) e
-  where
-    place_in_answer : Answer → Place
-    place_in_answer (Differs at) = at
-    place_in_answer Same = at
-    place_in_answer MutedA = at
-    place_in_answer MutedB = at
-    place_in_answer MutedBoth = at
-    place_in_answer OnlyA = at
-    place_in_answer OnlyB = at
+placed_at (Some other) at e = (let z : Differs other ≡ Differs at = e in cc)
 
 pub block_is_first : BlockIsFirst
 unfolding plp_differences

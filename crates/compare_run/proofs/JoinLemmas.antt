@@ -3,9 +3,10 @@
 use Rattle.std.proofs.Common.{◌≡◌, ◌≢◌, ℕ, zero, suc, ◌+◌, ◌%◌, ◌<◌, ◌≤◌, ◌==◌, ◌&&◌, Bool, true, false, List, []}
 use Rattle.std.proofs.Common.{find, length, Option, Some, None, refl, ap, sym, ◌∙◌, ⊎_elim, arith}
 use Rattle.std.specs.List.{items_where_true, range_with_len}
-use Rattle.std.proofs.lemmas.Bool.{cases_eq, cases_Bool, cond_both, cond-true, cond-false, and_parts, and_cases}
+use Rattle.std.proofs.lemmas.Bool.{cases_eq, cond_both, cond-true, cond-false, and_parts, and_cases}
 use Rattle.std.proofs.lemmas.Bool.{eqb-true}
 use Rattle.std.proofs.lemmas.Option.{same_Some}
+use Rattle.terms.proofs.CaseLemmas.{bool_cases}
 use Rattle.plp_config.specs.declared.config.Config.{Config}
 use Rattle.t2mi_packet.specs.declared.packet.Packet.{Packet}
 use Rattle.frame_groups.specs.Groups.{Group}
@@ -28,19 +29,15 @@ pub record IsFound (test : ℕ → Bool) (a len k : ℕ) : Type 0 where
 
 pub is_found : (test : ℕ → Bool) (a len k : ℕ) → find test (range_with_len a len) ≡ Some k → IsFound test a len k
 is_found test a zero k e = absurd (let z : ◌≡◌ {A = Option ℕ} None (Some k) = e in cc)
-is_found test a (suc len) k e = ⊎_elim
-    (λ (t : test a ≡ true).
-    let same : a ≡ k = same_Some a k (sym (cond-true (test a) (Some a) (find test (range_with_len (a + 1) len)) t)
-    ∙ e) in
-    record {
+is_found test a (suc len) k e =
+    bool_cases (test a)
+    (λ t. let same : a ≡ k = same_Some a k (rw t at e) in record {
       passes = sym (ap test same) ∙ t;
       low = omega (arith, same);
       high = omega (arith, same);
       before = λ j low high. absurd (omega (arith, low, high, same));
     })
-    (λ (t : test a ≡ false).
-    let later = is_found test (a + 1) len k (sym (cond-false (test a) (Some a) (find test (range_with_len (a + 1) len))
-    t) ∙ e) in
+    (λ t. let later = is_found test (a + 1) len k (rw t at e) in
     let low = later.low in
     let high = later.high in
     record {
@@ -50,7 +47,6 @@ is_found test a (suc len) k e = ⊎_elim
       before = λ j from to. ⊎_elim (λ (s : a ≡ j). sym (ap test s) ∙ t)
           (λ (ne : a ≢ j). later.before j (omega (arith, from, ne)) to) (cases_eq a j);
     })
-    (cases_Bool (test a))
 
 -- ---- the join
 

@@ -1,13 +1,12 @@
 -- The groups that have numbers, of what survives: from the join on, what survives of each frame.
-use Rattle.std.proofs.Common.{◌≡◌, ◌≢◌, ℕ, zero, suc, ◌+◌, ◌<◌, ◌≤◌, ◌==◌, Bool, true, false, List, [], ◌∷◌, map}
-use Rattle.std.proofs.Common.{length, Option, Some, None, refl, ap, ap₂, sym, subst, ◌∙◌, ⊎_elim, arith}
-use Rattle.std.specs.Prelude.{nat_le, nat_lt, if◌then◌else◌}
+use Rattle.std.proofs.Common.{◌≡◌, ◌≢◌, ℕ, zero, suc, ◌+◌, ◌<◌, ◌≤◌, Bool, true, false, List, [], ◌∷◌, map}
+use Rattle.std.proofs.Common.{length, Option, Some, None, refl, ap, sym, subst, ◌∙◌, ⊎_elim, arith}
+use Rattle.std.specs.Prelude.{nat_le, if◌then◌else◌}
 use Rattle.std.specs.List.{filter, range_with_len}
-use Rattle.std.proofs.lemmas.Bool.{true≢false, cases_eq, cond-false, ne_eqb, le-leb, lt-ltb}
+use Rattle.std.proofs.lemmas.Bool.{true≢false, cases_eq, ne_eqb, le-leb, lt-ltb}
 use Rattle.t2mi_packet.specs.declared.packet.Packet.{Packet}
 use Rattle.frame_groups.specs.Groups.{Group}
 use Rattle.frame_groups.specs.Modulated.{Numbered, Rules, past_with, past_behind, past_after}
-use Rattle.frame_groups.specs.Numbers.{frame_key}
 use Rattle.frame_groups.specs.Begun.{packets_at}
 use Rattle.frame_groups.proofs.BegunLemmas.{at_own, at_other}
 use Rattle.stream_laws.specs.GroupNumbers.{numbers_behind, is_met, number_from}
@@ -53,28 +52,15 @@ module _ (frames first : ℕ) (ss : List Sent) where
   abbrev one_more : List Numbered → ℕ → List Numbered
   one_more past a = past_with past (frame_group frames ss a) (number_from first a)
 
-  abbrev step : List Numbered → ℕ → ℕ → Bool → Bool → List Numbered
-  step past a len has met =
-      with_numbers past (if has then frame_group frames ss a ∷ groups_from (a + 1) len else groups_from (a + 1) len)
-      (map (number_from first)
-      (if met then a ∷ filter (is_met ss) (range_with_len (a + 1) len) else filter (is_met ss)
-      (range_with_len (a + 1) len)))
-
   -- a frame of which nothing survives, and one of which something does
   passed : (past : List Numbered) (a len : ℕ) → frame_packets a ss ≡ []
       → after past a (suc len) ≡ after past (a + 1) len
-  passed past a len is =
-      ap₂ (step past a len) (ap (λ (ps : List Packet). has_packets (record { key = frame_key frames a; packets = ps }))
-      is)
-      (ap (λ (ps : List Packet). nat_lt 0 (length ps)) is)
+  passed past a len is = rw is
 
   put : (past : List Numbered) (a len : ℕ) (p : Packet) (ps : List Packet) → frame_packets a ss ≡ p ∷ ps
       → after past a (suc len) ≡ after (one_more past a) (a + 1) len
   put past a len p ps is =
-      ap₂ (step past a len)
-      (ap (λ (qs : List Packet). has_packets (record { key = frame_key frames a; packets = qs })) is
-      ∙ cond-false (length (p ∷ ps) == 0) false true (ne_eqb (length (p ∷ ps)) 0 (λ e. omega (arith, e))))
-      (ap (λ (qs : List Packet). nat_lt 0 (length qs)) is ∙ lt-ltb 0 (length (p ∷ ps)) (omega arith))
+      rw (is, ne_eqb (length (p ∷ ps)) 0 (λ e. omega (arith, e)), lt-ltb 0 (length (p ∷ ps)) (omega arith))
 
   -- they do not change what is there of an earlier frame
   stays : (b len a : ℕ) (past : List Numbered) → b < a → packets_at (after past a len) b ≡ packets_at past b

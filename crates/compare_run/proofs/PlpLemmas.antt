@@ -8,12 +8,13 @@ use Rattle.std.proofs.lemmas.List.Concat.{flat_map-append}
 use Rattle.terms.proofs.RangeLemmas.{flat_same}
 use Rattle.plp_config.specs.Places.{places}
 use Rattle.plp_config.specs.declared.config.Config.{Config}
-use Rattle.frame_groups.specs.Modulated.{Numbered}
-use Rattle.compare_run.specs.Comparing.{carried, first_other, difference_in, differing, plp_differences}
-use Rattle.compare_run.specs.Lines.{plp_line, plp_text, plp_lines}
+use Rattle.frame_groups.specs.Modulated.{FrameRecord, Numbered}
+use Rattle.compare_run.specs.AnswerLaws.{frames_by}
+use Rattle.compare_run.specs.Comparing.{carried, first_other, difference_in, differing, plp_differences, answers}
+use Rattle.compare_run.specs.Lines.{plp_line, plp_text, plp_lines, known_text}
 use Rattle.compare_run.specs.Runs.{is_differing}
 use Rattle.compare_run.specs.TallyStandsFor.{AreOthers, other_in, plps_in}
-use Rattle.compare_run.specs.Shown.{plps_from, untold}
+use Rattle.compare_run.specs.Shown.{IsTold, text_in, plps_from, untold}
 use Rattle.compare_run.specs.declared.answer.Answer.{Answer}
 use Rattle.compare_run.specs.declared.answer.Other.{Other}
 use Rattle.compare_run.specs.declared.answering.Carried.{Carried}
@@ -54,6 +55,20 @@ pub no_plp : (c : Config) (x : Carried) (frame plp : ℕ) → plps_in x ≤ plp 
 no_plp c x frame plp le =
     let none : plps_in x - plp ≡ 0 = omega (arith, le) in
     ap (λ (k : ℕ). flat_map (line_at c x frame) (range_with_len plp k)) none
+
+-- so all is said that is known by the frames that were compared, or of all at the end
+pub said_so_far : (c : Config) (m : CompareMachine) {xs ys : List FrameRecord} {low : ℕ} {said : List ℕ}
+    {ga gb : List Numbered} → IsTold c m xs ys low said ga gb → plps_in m.carried ≤ m.plp
+    → said ≡ text_in m.done (plp_differences c ga gb) (answers c (frames_by xs ga) (frames_by ys gb))
+said_so_far c m {said = said} t le =
+    sym (append-nil said) ∙ ap (λ (l : List ℕ). said ++ l) (sym (no_plp c m.carried m.last m.plp le)) ∙ t.said_is
+
+pub said_known : (c : Config) (m : CompareMachine) {xs ys : List FrameRecord} {low : ℕ} {said : List ℕ}
+    {ga gb : List Numbered} → IsTold c m xs ys low said ga gb → plps_in m.carried ≤ m.plp → m.done ≡ false
+    → said ≡ known_text (plp_differences c ga gb) (answers c (frames_by xs ga) (frames_by ys gb))
+said_known c m {xs} {ys} {ga = ga} {gb = gb} t le going =
+    said_so_far c m t le
+    ∙ ap (λ (d : Bool). text_in d (plp_differences c ga gb) (answers c (frames_by xs ga) (frames_by ys gb))) going
 
 -- one, and those behind it
 pub one_plp : (c : Config) (x : Carried) (frame plp : ℕ) → plp < plps_in x

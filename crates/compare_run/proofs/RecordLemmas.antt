@@ -1,10 +1,11 @@
 -- The record of a frame that is whole: its group is the one of its number, and passes the tests.
-use Rattle.std.proofs.Common.{◌≡◌, ℕ, ◌+◌, ◌-◌, ◌==◌, Bool, true, false, List, [], ◌∷◌, Option, Some, None, refl, ap}
-use Rattle.std.proofs.Common.{ap₂, sym, subst, ◌∙◌, ⊎_elim}
+use Rattle.std.proofs.Common.{◌≡◌, ℕ, ◌+◌, ◌-◌, ◌==◌, Bool, true, List, [], ◌∷◌, Option, Some, None, refl, ap}
+use Rattle.std.proofs.Common.{ap₂, sym, subst, ◌∙◌}
 use Rattle.std.specs.List.{AllByRecursion, position_or_len, range_with_len}
-use Rattle.std.proofs.lemmas.Bool.{cases_Bool, cond-true, cond-false, eqb-true, false≢true}
+use Rattle.std.proofs.lemmas.Bool.{eqb-true, false≢true}
 use Rattle.std.proofs.lemmas.List.Folds.{find_at}
 use Rattle.std.proofs.lemmas.Option.{same_Some}
+use Rattle.terms.proofs.CaseLemmas.{bool_cases}
 use Rattle.terms.proofs.AllLemmas.{all_append, all_map}
 use Rattle.terms.proofs.ListLemmas.{all_get}
 use Rattle.terms.proofs.OptionLemmas.{none_some}
@@ -60,14 +61,12 @@ module _ (c : Config) where
       gs : List Numbered
       gs = past_after (rules c) (record { number = n; group = h } ∷ past) hs
 
-      group_of : Content → Group
-      group_of (Whole g) = g
-      group_of (Muted cause) = h
-
       go : (o : Option MuteCause) → (rules c).fault past h n ≡ o → (g : Group) → content_of h o ≡ Whole g
           → Came c gs n g
       go None none g e =
-          subst (Came c gs n) (ap group_of e)
+          let z : Whole h ≡ Whole g = e in
+          let same : h ≡ g = cc in
+          subst (Came c gs n) same
           (record {
             own = own_at (rules c) past h n true gs (record { group = h; rest = hs; are = refl; same = λ _. refl })
                 refl;
@@ -96,14 +95,10 @@ module _ (c : Config) where
 -- one that is found has the number
 number_found : (n : ℕ) (xs : List FrameRecord) (x : FrameRecord) → record_at n xs ≡ Some x → x.number ≡ n
 number_found n [] x e = none_some x e
-number_found n (y ∷ xs) x e = ⊎_elim
-    (λ (t : (y.number == n) ≡ true).
-    ap (λ (z : FrameRecord). z.number)
-    (same_Some x y (sym e ∙ cond-true {A = Option FrameRecord} (y.number == n) (Some y) (record_at n xs) t))
-    ∙ eqb-true y.number n t)
-    (λ (f : (y.number == n) ≡ false).
-    number_found n xs x (sym (cond-false {A = Option FrameRecord} (y.number == n) (Some y) (record_at n xs) f) ∙ e))
-    (cases_Bool (y.number == n))
+number_found n (y ∷ xs) x e =
+    bool_cases (y.number == n)
+    (λ t. ap (λ (z : FrameRecord). z.number) (same_Some x y (sym (rw t at e))) ∙ eqb-true y.number n t)
+    (λ f. number_found n xs x (rw f at e))
 
 -- and what all have
 pub found : (P : FrameRecord → Type 0) (n : ℕ) (xs : List FrameRecord) (x : FrameRecord) → AllByRecursion P xs

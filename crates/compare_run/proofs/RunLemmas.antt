@@ -1,6 +1,6 @@
 -- What a comparison does by its files.
 use Rattle.std.proofs.Common.{◌≡◌, ℕ, ◌+◌, ◌-◌, ◌<◌, ◌≤◌, ◌==◌, Bool, true, false, List, [], ◌∷◌, ◌++◌, length, Option}
-use Rattle.std.proofs.Common.{Some, None, refl, ap, ap₂, sym, subst, ◌∙◌, inl, inr, arith, append_assoc, append-nil}
+use Rattle.std.proofs.Common.{Some, None, refl, ap, ap₂, sym, subst, ◌∙◌, inl, inr, arith, append_assoc}
 use Rattle.std.specs.Prelude.{Err, slice_index}
 use Rattle.std.proofs.lemmas.Bool.{ltb-false}
 use Rattle.terms.proofs.CaseLemmas.{bool_cases}
@@ -36,7 +36,7 @@ use Rattle.compare_run.specs.Runs.{counts_of}
 use Rattle.compare_run.specs.TallyStandsFor.{counts_in, plps_in}
 use Rattle.compare_run.specs.declared.counts.CompareRan.{CompareRan}
 use Rattle.compare_run.proofs.GrowLemmas.{answers_nothing, before_more}
-use Rattle.compare_run.proofs.PlpLemmas.{no_plp}
+use Rattle.compare_run.proofs.PlpLemmas.{said_so_far}
 use Rattle.compare_run.proofs.LineLemmas.{nothing_told, known_front}
 use Rattle.compare_run.specs.AsMachine.{Becomes, ending_by, ending_in, ending_of}
 use Rattle.compare_run.specs.CompareRun.{compared_below, compared_of, differing_of, all_text, text_below, HaveRecords}
@@ -81,11 +81,7 @@ module _ (front : DueFront) (follow : DueFollow) (c : Config) (m : CompareMachin
 
   -- if no PLP is left to tell, the lines were said
   gave_is : is_telling m ≡ false → gave events ≡ text_in m.done of told
-  gave_is off =
-      sym (append-nil (gave events))
-      ∙ ap (λ (l : List ℕ). gave events ++ l)
-      (sym (no_plp c m.carried m.last m.plp (ltb-false m.plp (plps_in m.carried) off)))
-      ∙ is_told.said_is
+  gave_is off = said_so_far c m is_told (ltb-false m.plp (plps_in m.carried) off)
 
   -- the frames that were compared are those below a number that is behind both
   told_is : (n : ℕ) → m.next ≤ n → IsBehind n m.a ga → IsBehind n m.b gb → compared_below c files n ≡ told

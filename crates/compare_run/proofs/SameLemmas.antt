@@ -1,11 +1,12 @@
 -- Whole frames make the same record exactly if their L1 and the blocks that begin there are the same.
 use Rattle.std.proofs.Common.{◌≡◌, ℕ, ◌%◌, ◌<◌, ◌^◌, Bool, true, false, List, [], ◌∷◌, ◌++◌, length, map, Option, Some}
-use Rattle.std.proofs.Common.{None, refl, ap, ap₂, sym, ◌∙◌, ⊎_elim, arith}
+use Rattle.std.proofs.Common.{None, refl, ap, ap₂, sym, ◌∙◌, arith}
 use Rattle.std.specs.Prelude.{option_map, slice_get, slice_index}
 use Rattle.std.specs.List.{filter_map}
 use Rattle.std.specs.Option.{option_map_or}
-use Rattle.std.proofs.lemmas.Bool.{cases_Bool, cond-false}
+use Rattle.std.proofs.lemmas.Bool.{cond-false}
 use Rattle.std.proofs.lemmas.Option.{same_Some}
+use Rattle.terms.proofs.CaseLemmas.{bool_cases}
 use Rattle.terms.proofs.BitLemmas.{bits_of-bytes_of}
 use Rattle.terms.proofs.RangeLemmas.{flat_same}
 use Rattle.terms.specs.Bits.{bits_of}
@@ -105,10 +106,9 @@ module _ (known : Known) (c : Config) (n : ℕ) (plan : IsPlan c) (pa pb : List 
       ∙ sym (view_shape known.signal c n pb of_b)
 
   same_blocks : BeginSame c n pa pb → (plp : ℕ) → plp < length c.plps → right_blocks c plp pa ≡ right_blocks c plp pb
-  same_blocks s plp inside = ⊎_elim (λ (t : is_first c plp n ≡ true). s.blocks plp inside t)
-      (λ (f : is_first c plp n ≡ false).
-      none_right known c n plan pa a plp inside f ∙ sym (none_right known c n plan pb b plp inside f))
-      (cases_Bool (is_first c plp n))
+  same_blocks s plp inside =
+      bool_cases (is_first c plp n) (λ t. s.blocks plp inside t)
+      (λ f. none_right known c n plan pa a plp inside f ∙ sym (none_right known c n plan pb b plp inside f))
 
   same_view : BeginSame c n pa pb → packets_view c n pa ≡ packets_view c n pb
   same_view s =

@@ -1,12 +1,10 @@
 -- A machine was fed in a run.
 use Rattle.std.proofs.Common.{◌≡◌, ◌≢◌, ℕ, ◌+◌, ◌-◌, ◌<◌, ◌≤◌, Bool, true, false, List, [], ◌∷◌, ◌++◌, length, Option}
 use Rattle.std.proofs.Common.{Some, None, refl, ap, sym, subst, ◌∙◌, inl, inr, arith, append_assoc, length-append}
-use Rattle.std.specs.Prelude.{slice_index, slice_index_or, slice_set, option_map, ◌⊎◌}
-use Rattle.std.specs.List.{sum_by}
+use Rattle.std.specs.Prelude.{slice_index, slice_set, option_map, ◌⊎◌}
 use Rattle.std.proofs.lemmas.List.{nil_from_length, length-set}
-use Rattle.std.proofs.lemmas.List.Sums.{sum_by-set}
 use Rattle.ports.specs.Desk.{State, SameCounts}
-use Rattle.file_run.specs.Reading.{Reading, given_of, rest_of, spare, longest_file, ReadsOn, TakesNone, StopsReading}
+use Rattle.file_run.specs.Reading.{Reading, given_of, rest_of, longest_file, ReadsOn, TakesNone, StopsReading}
 use Rattle.file_run.specs.declared.ahead.ReadStop.{ReadStop}
 use Rattle.file_run.specs.declared.ahead.ReadStop.TheVariants as stop
 use Rattle.file_run.specs.Events.{Event, Fed, Ended, Gave, fed, has_ended, gave}
@@ -256,11 +254,3 @@ stops_unfed Becomes m reach next b old new readings input least most is events s
             (λ other inside differ. r.short other inside));
       }),
     )
-
--- Each feeding makes less of what may still be read.
-pub less_left : (readings : List Reading) (input : ℕ) (was is d : Reading) → input < length readings
-    → was ≡ slice_index_or readings input d → spare is < spare was → sum_by spare (slice_set readings input is)
-    < sum_by spare readings
-less_left readings input was is d lt at fewer = let e = sum_by-set spare readings input is d lt in let f =
-    ap spare at in
-    omega (arith, e, f, fewer)

@@ -3,7 +3,7 @@ use Rattle.std.proofs.Common.{◌≡◌, ◌≢◌, ℕ, ◌+◌, ◌<◌, ◌�
 use Rattle.std.proofs.Common.{inr, arith}
 use Rattle.std.specs.Prelude.{◌⊎◌, slice_index_or, slice_set}
 use Rattle.std.proofs.lemmas.List.{get_or_default}
-use Rattle.ports.specs.Desk.{State, SameCounts, has_run_out}
+use Rattle.ports.specs.Desk.{State, SameCounts}
 use Rattle.file_run.specs.Faults.{WritesFail}
 use Rattle.file_run.specs.DeskLaws.{CreatesEmpty}
 use Rattle.file_run.specs.Reading.{Reading, given_of, longest_file, ReadsOn, TakesNone, StopsReading}
@@ -11,10 +11,9 @@ use Rattle.file_run.specs.declared.ahead.ReadStop.{ReadStop}
 use Rattle.file_run.specs.Events.{Event, fed, has_ended}
 use Rattle.file_run.specs.FileRun.{FailsToBegin, StopsWriting, RunsAll, Stops}
 use Rattle.file_run.specs.Running.{Start, place_of, no_reading, reading_at, AreOpened, IsBegun, Drains, DrainsFront}
-use Rattle.file_run.specs.Running.{Feeds, IsRunning, IsReader, read_fault}
+use Rattle.file_run.specs.Running.{Feeds, IsRunning, read_fault}
 use Rattle.file_run.specs.Sink.{Sink, Into, Aloud, creates, out_of, AreOthers, IsOpen}
 use Rattle.file_run.specs.declared.output.OpenOutput.{OpenOutput}
-use Rattle.file_run.specs.declared.output.OpenOutput.TheVariants.{File, Standard}
 use Rattle.file_run.specs.Steps.{HasCome}
 use Rattle.file_run.specs.declared.machine.Step.{Step}
 use Rattle.file_run.specs.declared.machine.Step.TheVariants.{Read, Give, End}
@@ -51,10 +50,6 @@ pub is_open : {A : Type 0} (Becomes : List Event → A → Type 0) (reach : A �
 is_open Becomes reach m b now readings out e r =
     subst (λ (o : OpenOutput). IsOpen o now) (sym e) (opened_at b.sink b.desk.created now r.runs.reached.created)
 
-pub stays_open : (out : OpenOutput) (old new : State) → new.created ≡ old.created → IsOpen out old → IsOpen out new
-stays_open (File handle) old new e there = omega (arith, e, there)
-stays_open Standard old new e there = tt
-
 pub running_drained : {A : Type 0} (Becomes : A → List Event → A → Type 0) (start m n : A) (reach : A
     → ℕ → ℕ) (b : Start)
     (old new : State) (readings : List Reading) (out : OpenOutput) → out ≡ place_of b
@@ -81,12 +76,6 @@ stopped_drained Becomes start m n reach next b old new readings out place fault 
   inr (stops_drained Becomes start m n reach next b old new readings r.events r.runs r.came gives
       (subst (λ (o : OpenOutput). DrainsFront Becomes o m n old new) place d)),
 )
-
--- The machine of a run has come from its start,
-pub running_came : {A : Type 0} (Becomes : A → List Event → A → Type 0) (start : A) (reach : A → ℕ
-    → ℕ) (m : A) (b : Start)
-    (now : State) (readings : List Reading) → IsRunning (Becomes start) reach b now m readings → HasCome Becomes m
-running_came Becomes start reach m b now readings r = record { start = start; events = r.events; came = r.came }
 
 -- and further if it was fed.
 pub came_fed : {A : Type 0} (Becomes : A → List Event → A → Type 0) (old new : A) (before after : State)
@@ -171,28 +160,3 @@ pub at_end : (s : Step) → s ≢ Give → ((input least most : ℕ) → s ≢ R
 at_end (Read input least most) give read = absurd (read input least most refl)
 at_end Give give read = absurd (give refl)
 at_end End give read = refl
-
-pub not_ended : {A : Type 0} (Becomes : List Event → A → Type 0) (reach : A → ℕ → ℕ) (m : A) (b : Start) (old : State)
-    (readings : List Reading) (input : ℕ) (d : Reading) → input < length readings
-    → (r : IsRunning Becomes reach b old m readings) → has_ended input r.events ≡ false
-    → (slice_index_or readings input d).ended ≡ false
-not_ended Becomes reach m b old readings input d lt r off =
-    ap (λ (x : Reading). x.ended) (get_or_default readings input d no_reading lt) ∙ r.runs.ended input lt ∙ off
-
-pub can_go_on : {A : Type 0} (Becomes : List Event → A → Type 0) (reach : A → ℕ → ℕ) (m : A) (b : Start) (old : State)
-    (readings : List Reading) (input : ℕ) (d : Reading) → input < length readings
-    → (r : IsRunning Becomes reach b old m readings) → has_ended input r.events ≡ false
-    → has_run_out old (slice_index_or readings input d).handle ≡ false
-can_go_on Becomes reach m b old readings input d lt r off =
-    ap (λ (x : Reading). has_run_out old x.handle) (get_or_default readings input d no_reading lt)
-    ∙ r.runs.goes_on input lt (r.runs.ended input lt ∙ off)
-
-pub reader_of : {A : Type 0} (Becomes : A → List Event → A → Type 0) (start : A) (reach : A → ℕ → ℕ) (m : A) (b : Start)
-    (old : State) (readings : List Reading) (input : ℕ) (d : Reading) → input < length readings
-    → IsRunning (Becomes start) reach b old m readings → IsReader Becomes m input (slice_index_or readings input d)
-reader_of Becomes start reach m b old readings input d lt r = record {
-  start = start;
-  events = r.events;
-  came = r.came;
-  taken = ap (λ (x : Reading). x.taken) (get_or_default readings input d no_reading lt) ∙ r.runs.taken input lt;
-}

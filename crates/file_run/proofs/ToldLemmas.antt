@@ -13,7 +13,6 @@ use Rattle.file_run.specs.Saying.{SaysBytes}
 use Rattle.file_run.proofs.SayLemmas.{says_page}
 use Rattle.file_run.specs.Events.{Event, fed}
 use Rattle.file_run.specs.Steps.{Needs, FallsShort}
-use Rattle.file_run.specs.Laws.{FirstIsTold}
 use Rattle.file_run.specs.Telling.{Tells, TellsAll, TellsTooMuch, ReadsFailAtLeast, StopsTelling}
 use Rattle.file_run.specs.TellingOn.{Telling, Finishes, Breaks, TellsLast}
 use Rattle.file_run.specs.declared.machine.Step.{Step}
@@ -121,17 +120,6 @@ fails_twice start old new f w =
       writes = (let l = w.later in omega (arith, l, writes));
       lines = ap (λ (k : Counts). k.lines) w.others ∙ ap (λ (k : Counts). k.lines) f.others;
     }
-
--- Writing failed, and then reading: that is not told as a fault of reading.
-pub first_is_told : FirstIsTold
-first_is_told old mid new none w r told =
-    let first : mid.counts.first ≡ Some kind.Writing = w.first ∙ ap (λ (k : Option FaultKind). first_of k kind.Writing)
-    none in
-    let later : new.counts.first ≡ Some kind.Writing = r.first ∙ ap (λ (k : Option FaultKind). first_of k kind.Reading)
-    first in
-    let reading : new.counts.first ≡ Some kind.Reading = told.first
-    ∙ ap (λ (k : Option FaultKind). first_of k kind.Reading) none in
-    let same : Some kind.Writing ≡ Some kind.Reading = sym later ∙ reading in cc
 
 -- what waits in front of the machine
 waits : {A : Type 0} (Came : List Event → A → Type 0) (next : A → Step) (start now : State) (name : List ℕ)

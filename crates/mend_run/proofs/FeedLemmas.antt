@@ -53,50 +53,27 @@ pub record CanGo (over : Bool) (pid : ℕ) (bytes : List ℕ) (ended : Bool) (al
   pub later : List Arrival
   pub can : CanBecome over pid bytes ended all later
 
-pub fed_back : (pid : ℕ) (bytes piece : List ℕ) (ended : Bool) (all : List ℕ) (later : List Arrival)
-    → CanBecome false pid (bytes ++ piece) ended all later → CanGo false pid bytes ended all
-fed_back pid bytes piece ended all later can = record {
-  later = arrivals_behind pid bytes (piece ++ can.0);
-  can = (piece ++ can.0, can.1 ∙ append_assoc bytes piece can.0, refl);
-}
-
-pub ended_back : (pid : ℕ) (bytes tail : List ℕ) (ended : Bool) (all : List ℕ) (later : List Arrival)
-    → CanBecome true pid (bytes ++ tail) ended all later → CanGo false pid bytes ended all
-ended_back pid bytes tail ended all later can = record {
-  later = arrivals_behind pid bytes tail;
-  can = (tail, can.1, refl);
-}
-
--- so how it can go on now it could before
-pub goes_fed : (c : Config) (f g : Feed) (bytes piece new : List ℕ) (gone : List FeedEvent) → new ≡ bytes ++ piece
-    → has_ended f ≡ false → has_ended g ≡ has_ended f → (x y : Coming) → Goes c g new gone x y → Goes c f bytes gone x y
-goes_fed c f g bytes piece new gone is going same x y go =
-    let w = fed_back c.pid bytes piece x.over go.all go.later
-    (subst (λ (b : Bool). CanBecome b c.pid (bytes ++ piece) x.over go.all go.later) (same ∙ going)
-    (subst (λ (l : List ℕ). CanBecome (has_ended g) c.pid l x.over go.all go.later) is go.can)) in
+-- So how it can go on now it could before, behind fewer bytes.
+pub goes_back : (c : Config) (f g : Feed) (bytes piece new : List ℕ) (gone : List FeedEvent) → new ≡ bytes ++ piece
+    → has_ended f ≡ false → (over : Bool) → has_ended g ≡ over → (x y : Coming) → Goes c g new gone x y
+    → Goes c f bytes gone x y
+goes_back c f g bytes piece new gone is going over ends x y go =
+    let w = by over (rw (ends, is) at go.can) in
     record {
       all = go.all;
       later = w.later;
-      can = subst (λ (b : Bool). CanBecome b c.pid bytes x.over go.all w.later) (sym going) w.can;
+      can = rw going w.can;
       is = go.is;
       parts = go.parts;
       over = go.over;
     }
-
-pub goes_ended : (c : Config) (f g : Feed) (bytes tail new : List ℕ) (gone : List FeedEvent) → new ≡ bytes ++ tail
-    → has_ended f ≡ false → has_ended g ≡ true → (x y : Coming) → Goes c g new gone x y → Goes c f bytes gone x y
-goes_ended c f g bytes tail new gone is going over x y go =
-    let w = ended_back c.pid bytes tail x.over go.all go.later
-    (subst (λ (b : Bool). CanBecome b c.pid (bytes ++ tail) x.over go.all go.later) over
-    (subst (λ (l : List ℕ). CanBecome (has_ended g) c.pid l x.over go.all go.later) is go.can)) in
-    record {
-      all = go.all;
-      later = w.later;
-      can = subst (λ (b : Bool). CanBecome b c.pid bytes x.over go.all w.later) (sym going) w.can;
-      is = go.is;
-      parts = go.parts;
-      over = go.over;
+  where
+    by : (b : Bool) → CanBecome b c.pid (bytes ++ piece) x.over go.all go.later → CanGo false c.pid bytes x.over go.all
+    by false can = record {
+      later = arrivals_behind c.pid bytes (piece ++ can.0);
+      can = (piece ++ can.0, can.1 ∙ append_assoc bytes piece can.0, refl);
     }
+    by true can = record { later = arrivals_behind c.pid bytes piece; can = (piece, can.1, refl) }
 
 -- what it stands for, by its rules and its end
 pub has_now : (c : Config) (f g : Feed) (bytes new : List ℕ) (ended now : Bool) (gone : List FeedEvent)
@@ -191,8 +168,7 @@ pub same_group : (c : Config) (f : Feed) (bytes : List ℕ) (ended : Bool) (gone
     (x y : Coming) → Goes c f bytes gone x y → (n : ℕ) (g : Group) → head_of f ≡ head.Frame n → h.stands.group ≡ Some g
     → (more : List FeedEvent) × (y.events ≡ Has (record { number = n; group = g }) ∷ more)
 same_group c f bytes ended gone h x y go n g e is =
-    let next = subst (λ (d : Head). IsNext d h.stands.group x.over gone (feed_events (rules c) x.over go.all)) e
-    (next_as c f bytes ended gone h x.over go.all go.later go.can) in
+    let next = rw e at (next_as c f bytes ended gone h x.over go.all go.later go.can) in
     let same : next.0 ≡ g = same_Some next.0 g (sym next.1 ∙ is) in (
       next.2.0,
       behind_front gone y.events _ (sym (sym go.is ∙ go.parts) ∙ next.2.1)

@@ -12,15 +12,14 @@ use Rattle.plp_config.specs.declared.config.Config.{Config}
 use Rattle.frame_groups.specs.Groups.{Group}
 use Rattle.frame_groups.specs.Modulated.{Rules}
 use Rattle.feed_events.specs.FeedEvents.{FeedEvent}
-use Rattle.feed_events.specs.StandsFor.{head_of, left_of, has_ended, is_known, shown, CanBecome}
+use Rattle.feed_events.specs.StandsFor.{head_of, left_of, has_ended, is_known, shown}
 use Rattle.feed_events.specs.declared.course.Head.{Head}
 use Rattle.feed_events.specs.declared.course.Head.TheVariants as head
 use Rattle.mended_frames.specs.Heads.{AllPass, Passes, PassesIf, Begins, is_passed, number_at}
 use Rattle.mended_frames.specs.Picks.{Coming, behind, group_next}
 use Rattle.mended_frames.proofs.HeadLemmas.{behind_shown, behind_kept}
-use Rattle.frame_weave.specs.Holds.{HoldsMarked}
 use Rattle.frame_weave.specs.contracts.group.MarkedGroupOpenGroup.TheImpl as marked
-use Rattle.mended_frames.specs.StandsFor.{Feed, pooled_of, AreOf, HaveGroups, HasIf, is_at}
+use Rattle.mended_frames.specs.StandsFor.{Feed, pooled_of, AreOf, HaveGroups, is_at}
 use Rattle.file_run.specs.Events.{Event, fed}
 use Rattle.file_run.specs.Events as events
 use Rattle.mend_run.specs.Row.{Goes, Shows, FeedHas, HaveCome, Pass, AllKnown, OnePasses, left_in}
@@ -62,8 +61,7 @@ module _ (c : Config) (number : Option ℕ) (silent : Bool) (bytes : List ℕ) (
     shows = shows;
   }
   has_passed false q =
-      subst (λ (z : Feed). FeedHas c z bytes ended (gone ++ [])) (sym q) (subst (FeedHas c f bytes ended)
-      (sym (append-nil gone)) h)
+      rw (q, append-nil gone) h
 
   pub has : FeedHas c g bytes ended (gone ++ passed)
   has = has_passed (is_passed number silent (head_of f)) p
@@ -71,10 +69,6 @@ module _ (c : Config) (number : Option ℕ) (silent : Bool) (bytes : List ℕ) (
   ended_same : (t : Bool) → PassesIf t f g → has_ended g ≡ has_ended f
   ended_same true q = q.ended
   ended_same false q = ap has_ended q
-
-  pub left_most : (t : Bool) → PassesIf t f g → left_of g ≤ left_of f
-  left_most true q = (let l = q.left in omega (arith, l))
-  left_most false q = (let e = ap left_of q in omega (arith, e))
 
   -- what comes before what it can go on with now
   abbrev pub before : Coming → Coming
@@ -84,8 +78,7 @@ module _ (c : Config) (number : Option ℕ) (silent : Bool) (bytes : List ℕ) (
   goes x y go = record {
     all = go.all;
     later = go.later;
-    can = subst (λ (b : Bool). CanBecome b c.pid bytes x.over go.all go.later)
-        (ended_same (is_passed number silent (head_of f)) p) go.can;
+    can = rw (ended_same (is_passed number silent (head_of f)) p) at go.can;
     is = go.is;
     parts = go.parts ∙ append_assoc gone passed y.events;
     over = go.over;
@@ -133,8 +126,7 @@ module _ (c : Config) (k : ℕ) (number : Option ℕ) (silent : Bool) (old new :
       none_some q.0 (sym e ∙ q.1)
   come_at i g is (Some f) e =
       let q = p.each i f e in
-      subst (λ (z : Feed). FeedHas c z (bytes i) (ended i) (gone i ++ past_at i (Some f) e))
-      (same_Some q.0 g (sym q.1 ∙ is))
+      rw (← same_Some q.0 g (sym q.1 ∙ is))
       (has c number silent (bytes i) (ended i) (gone i) f q.0 (h.each i f e) (shows i q.0 q.1) q.2)
 
   abbrev before_at : (ℕ → Coming) → ℕ → Coming
@@ -191,7 +183,7 @@ left_less [] (g ∷ new) len each = absurd (omega (arith, len))
 left_less (f ∷ old) [] len each = absurd (omega (arith, len))
 left_less (f ∷ old) (g ∷ new) len each =
     let q = each 0 f refl in
-    let here = subst (λ (z : Feed). left_of z ≤ left_of f) (same_Some q.0 g (sym q.1)) q.2 in
+    let here : left_of g ≤ left_of f = rw (← same_Some q.0 g (sym q.1)) q.2 in
     let rest = left_less old new (omega (arith, len)) (λ i e is. each (suc i) e is) in
     omega (arith, here, rest)
 
@@ -203,13 +195,12 @@ left_fewer : (old new : List Feed) → length new ≡ length old
 left_fewer [] new len each i f g is there less = none_some f is
 left_fewer (e ∷ old) [] len each i f g is there less = none_some g there
 left_fewer (e ∷ old) (d ∷ new) len each zero f g is there less =
-    let here = subst (λ (z : Feed). left_of d < left_of z) (sym (same_Some e f is))
-    (subst (λ (z : Feed). left_of z < left_of f) (sym (same_Some d g there)) less) in
+    let here : left_of d < left_of e = rw (same_Some e f is, same_Some d g there) less in
     let rest = left_less old new (omega (arith, len)) (λ i e is. each (suc i) e is) in
     omega (arith, here, rest)
 left_fewer (e ∷ old) (d ∷ new) len each (suc i) f g is there less =
     let q = each 0 e refl in
-    let here = subst (λ (z : Feed). left_of z ≤ left_of e) (same_Some q.0 d (sym q.1)) q.2 in
+    let here : left_of d ≤ left_of e = rw (← same_Some q.0 d (sym q.1)) q.2 in
     let rest = left_fewer old new (omega (arith, len)) (λ i e is. each (suc i) e is) i f g is there less in
     omega (arith, here, rest)
 
@@ -240,7 +231,7 @@ pub of_passed : (number : Option ℕ) (silent : Bool) (old new : List Feed)
 of_passed number silent old new p c are i h there =
     let f = get_too old new i h p.len there in
     let q = p.each i f.0 f.1 in
-    subst (λ (z : Feed). (pooled_of z).network ≡ c) (same_Some q.0 h (sym q.1 ∙ there))
+    rw (← same_Some q.0 h (sym q.1 ∙ there))
     (of_if (is_passed number silent (head_of f.0)) f.0 q.0 q.2 ∙ are i f.0 f.1)
 
 -- ---- the packets of a frame that are next
@@ -296,11 +287,10 @@ module _ (c : Config) (n : ℕ) (done : List Event) (gone : ℕ → List FeedEve
       let x = shown_group c f (fed a done) (events.has_ended a done) (gone a) h.0 n at in
       record {
         groups = x.0 ∷ rest.groups;
-        have = subst (λ (b : Bool). HasIf b f (HaveGroups n feeds) (x.0 ∷ rest.groups)) (sym e) (record {
+        have = rw e (record {
           group = x.0;
           own = h.0.stands.held.own;
-          holds = subst (λ (o : Option Group). HoldsMarked f.frames.group h.0.stands.held.own o) x.1
-              h.0.stands.held.holds;
+          holds = rw x.1 at h.0.stands.held.holds;
           more = rest.groups;
           are = refl;
           others = rest.have;
@@ -317,7 +307,7 @@ module _ (c : Config) (n : ℕ) (done : List Event) (gone : ℕ → List FeedEve
       let h = all a f (omega arith) (here f feeds a) in
       record {
         groups = rest.groups;
-        have = subst (λ (b : Bool). HasIf b f (HaveGroups n feeds) rest.groups) (sym e) rest.have;
+        have = rw e rest.have;
         are = λ xs ys goes.
             let go = goes a f (omega arith) (here f feeds a) in
             from_first a (length feeds) (λ i. group_next n (ys i).events)

@@ -1,6 +1,6 @@
 -- Feeds in a row.
-use Rattle.std.proofs.Common.{◌≡◌, ◌≢◌, ◌⊎◌, inl, inr, ⊎_elim, ℕ, zero, suc, ◌+◌, ◌<◌, ◌≤◌, ◌==◌, Bool, true, false}
-use Rattle.std.proofs.Common.{cond, List, [], ◌∷◌, ◌++◌}
+use Rattle.std.proofs.Common.{◌≡◌, ◌≢◌, ◌⊎◌, inl, inr, ⊎_elim, ℕ, zero, suc, ◌+◌, ◌<◌, ◌≤◌, ◌==◌, true, false}
+use Rattle.std.proofs.Common.{List, [], ◌∷◌, ◌++◌}
 use Rattle.std.proofs.Common.{length, Option, Some, None, refl, ap, sym, subst, ◌∙◌, arith, length-append}
 use Rattle.std.specs.Prelude.{slice_get, slice_set, option_map, IfSome, IfNone}
 use Rattle.std.specs.Option.{option_map_or}
@@ -105,15 +105,11 @@ first_behind f feeds i known (Some j) rest e =
       before = known_before f feeds known j r;
     })
 
-abbrev first_by : Bool → Option ℕ → Option ℕ
-first_by known o = cond known (option_map suc o) (Some 0)
-
 pub first_some : (feeds : List Feed) (i : ℕ) → first_waiting feeds ≡ Some i → IsFirst feeds i
 first_some [] i e = none_some i e
 first_some (f ∷ feeds) i e = bool_cases (is_known (head_of f))
-    (λ known. first_behind f feeds i known (first_waiting feeds) (λ j is. first_some feeds j is)
-    (sym (ap (λ (b : Bool). first_by b (first_waiting feeds)) known) ∙ e))
-    (λ unknown. first_here f feeds i unknown (sym (ap (λ (b : Bool). first_by b (first_waiting feeds)) unknown) ∙ e))
+    (λ known. first_behind f feeds i known (first_waiting feeds) (λ j is. first_some feeds j is) (rw known at e))
+    (λ unknown. first_here f feeds i unknown (rw unknown at e))
 
 none_behind : (f : Feed) (feeds : List Feed) → is_known (head_of f) ≡ true → (o : Option ℕ)
     → (o ≡ None → AllKnown feeds) → option_map suc o ≡ None → AllKnown (f ∷ feeds)
@@ -124,9 +120,8 @@ none_behind f feeds known (Some j) rest e i = none_some (suc j) (sym e)
 pub first_none : (feeds : List Feed) → first_waiting feeds ≡ None → AllKnown feeds
 first_none [] e i = ap is_known (past_over [] i (omega arith))
 first_none (f ∷ feeds) e i = bool_cases (is_known (head_of f))
-    (λ known. none_behind f feeds known (first_waiting feeds) (λ is. first_none feeds is)
-    (sym (ap (λ (b : Bool). first_by b (first_waiting feeds)) known) ∙ e) i)
-    (λ unknown. none_some 0 (sym (sym (ap (λ (b : Bool). first_by b (first_waiting feeds)) unknown) ∙ e)))
+    (λ known. none_behind f feeds known (first_waiting feeds) (λ is. first_none feeds is) (rw known at e) i)
+    (λ unknown. none_some 0 (sym (rw unknown at e)))
 
 -- what is told is the first
 not_known : (h : Head) → is_known h ≡ true → h ≡ head.Unknown → ⊥
@@ -175,13 +170,10 @@ module _ (c : Config) (k : ℕ) (old : List Feed) (input : ℕ) (f g : Feed) (be
       ⊎ ((i ≢ input) × (slice_get old i ≡ Some e))
       → FeedHas c e (fed i done) (events.has_ended i done) (gone i)
   come_at h i e (inl a) =
-      subst (λ (j : ℕ). FeedHas c e (fed j done) (events.has_ended j done) (gone j)) (sym a.0)
-      (subst (λ (z : Feed). FeedHas c z (fed input done) (events.has_ended input done) (gone input))
-      a.1 (has (h.each input f is)))
+      rw (a.0, ← a.1) (has (h.each input f is))
   come_at h i e (inr a) =
       let o = others i a.0 in
-      subst (λ (l : List ℕ). FeedHas c e l (events.has_ended i done) (gone i)) (sym o.0)
-      (subst (λ (b : Bool). FeedHas c e (fed i before) b (gone i)) (sym o.1) (h.each i e a.1))
+      rw (o.0, o.1) (h.each i e a.1)
 
   goes_at : (xs ys : ℕ → Coming) → AllGo c new done gone xs ys → (i : ℕ) (e : Feed) → slice_get old i ≡ Some e
       → Goes c e (fed i before) (gone i) (xs i) (ys i)
@@ -189,12 +181,10 @@ module _ (c : Config) (k : ℕ) (old : List Feed) (input : ℕ) (f g : Feed) (be
       (λ same. let at : i ≡ input = eqb-true i input same in
       let inside = slice_get_within old i e there in
       let one : f ≡ e = same_Some f e (sym is ∙ ap (slice_get old) (sym at) ∙ there) in
-      subst (λ (j : ℕ). Goes c e (fed j before) (gone j) (xs j) (ys j)) (sym at)
-      (subst (λ (z : Feed). Goes c z (fed input before) (gone input) (xs input) (ys input)) one
-      (back (xs input) (ys input) (all input g (set_here old input g (omega (arith, inside, at)))))))
+      rw (at, ← one) (back (xs input) (ys input) (all input g (set_here old input g (omega (arith, inside, at))))))
       (λ other. let apart : i ≢ input = eqb-false i input other in
       let o = others i apart in
-      subst (λ (l : List ℕ). Goes c e l (gone i) (xs i) (ys i)) o.0
+      rw o.0 at
       (all i e (set_there old input i g (λ z. apart (sym z)) ∙ there)))
 
   pub go_on : HaveCome c k old before gone → GoOn c k old new before done gone
@@ -214,15 +204,14 @@ pub fed_set : (feeds : List Feed) (input : ℕ) (f g : Feed) → slice_get feeds
 fed_set feeds input f g is more i e h old new = ⊎_elim
     (λ (a : (i ≡ input) × (g ≡ h)).
     let one : f ≡ e = same_Some f e (sym is ∙ ap (slice_get feeds) (sym a.0) ∙ old) in
-    subst (λ (z : Feed). fed_of z ≤ fed_of h) one (subst (λ (z : Feed). fed_of f ≤ fed_of z) a.1 more))
-    (λ (a : (i ≢ input) × (slice_get feeds i ≡ Some h)).
-    subst (λ (z : Feed). fed_of z ≤ fed_of h) (same_Some h e (sym a.1 ∙ old)) (omega arith))
+    rw (← one, ← a.1) more)
+    (λ (a : (i ≢ input) × (slice_get feeds i ≡ Some h)). rw (← same_Some h e (sym a.1 ∙ old)) (omega arith))
     (get_set feeds input i g h new)
 
 pub of_set : (feeds : List Feed) (input : ℕ) (f g : Feed) → slice_get feeds input ≡ Some f
     → (pooled_of g).network ≡ (pooled_of f).network → (c : Config) → AreOf c feeds → AreOf c (slice_set feeds input g)
 of_set feeds input f g is same c are i h there = ⊎_elim
-    (λ (a : (i ≡ input) × (g ≡ h)). subst (λ (z : Feed). (pooled_of z).network ≡ c) a.1 (same ∙ are input f is))
+    (λ (a : (i ≡ input) × (g ≡ h)). rw (← a.1) (same ∙ are input f is))
     (λ (a : (i ≢ input) × (slice_get feeds i ≡ Some h)). are i h a.1)
     (get_set feeds input i g h there)
 
@@ -233,10 +222,10 @@ pub come_pushed : (c : Config) (k : ℕ) (feeds : List Feed) (f : Feed) → Have
 come_pushed c k feeds f h has = record {
   count = (let l = length-append feeds (f ∷ []) in let n = h.count in omega (arith, l, n));
   each = λ i g is. ⊎_elim (λ (a : slice_get feeds i ≡ Some g). h.each i g a)
-      (λ (a : f ≡ g). subst (λ (z : Feed). FeedHas c z [] false []) a has) (get_pushed feeds f i g is);
+      (λ (a : f ≡ g). rw (← a) has) (get_pushed feeds f i g is);
 }
 
 pub of_pushed : (c : Config) (feeds : List Feed) (f : Feed) → AreOf c feeds → FeedHas c f [] false []
     → AreOf c (feeds ++ f ∷ [])
 of_pushed c feeds f are has i g is = ⊎_elim (λ (a : slice_get feeds i ≡ Some g). are i g a)
-    (λ (a : f ≡ g). subst (λ (z : Feed). (pooled_of z).network ≡ c) a has.network) (get_pushed feeds f i g is)
+    (λ (a : f ≡ g). rw (← a) has.network) (get_pushed feeds f i g is)

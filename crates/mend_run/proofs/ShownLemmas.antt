@@ -18,20 +18,19 @@ use Rattle.mended_frames.proofs.HeadLemmas.{it_waits}
 use Rattle.mended_frames.proofs.PickLemmas.{picks_same, picks_wait}
 use Rattle.frame_writer.specs.FramePackets.{packets_from}
 use Rattle.spaced_frames.specs.Spaced.{SentFrame, spaced}
-use Rattle.t2mi_stream.specs.Pipe.{pipe}
 use Rattle.spaced_frames.specs.StandsFor.{SenderStandsFor, Content, HasGiven, sent_as}
 use Rattle.spaced_frames.specs.declared.sender.Sender.{Sender}
 use Rattle.mended_frames.specs.Mended.{Made, mended, taking, frames_of, frame_of, made_as, content_in, packets_of}
+use Rattle.mended_frames.specs.Mended.{low_of}
 use Rattle.mended_frames.specs.StandsFor.{Feed, MenderStandsFor, lent_content, nothing}
-use Rattle.mended_frames.specs.declared.mender.Mender.{Mender}
 use Rattle.mended_frames.specs.declared.mender.Source.{Source}
 use Rattle.file_run.specs.Events.{Event, Gave, gave, fed}
 use Rattle.file_run.specs.Events as events
 use Rattle.file_run.specs.Laws.{EventsTell}
 use Rattle.file_run.specs.Steps.{HasCome}
 use Rattle.mend_run.specs.AsMachine.{Becomes}
-use Rattle.mend_run.specs.Row.{Goes, FeedHas, HaveCome, AllGo, LastCame, GoOn, Pass, AllKnown, OnePasses}
-use Rattle.mend_run.specs.Shown.{Place, Looks, Passes, Sends, Rests, Done, Splits, HasSent, IsSending, IsAt, AllEnded}
+use Rattle.mend_run.specs.Row.{Goes, HaveCome, AllGo, LastCame, GoOn, Pass, AllKnown, OnePasses}
+use Rattle.mend_run.specs.Shown.{Place, Looks, Passes, Sends, Rests, Done, Splits, HasSent, IsAt, AllEnded}
 use Rattle.mend_run.specs.Shown.{HasDue, ShownAt, Shown, known_by, HasShown, place_of, tally_of, with_frame}
 use Rattle.mend_run.specs.declared.machine.MendMachine.{MendMachine}
 use Rattle.mend_run.specs.declared.phase.Phase.{Phase}
@@ -193,7 +192,18 @@ from_place c k done m p is s = subst (λ (q : Phase). ShownAt c k done m (place_
 -- what a sender stands for, by another name of its network
 pub stands_as : (c d : Config) (s : Sender) (x : Content) (frames : List SentFrame) (bytes : List ℕ) → d ≡ c
     → SenderStandsFor d s x frames bytes → SenderStandsFor c s x frames bytes
-stands_as c d s x frames bytes e h = subst (λ (k : Config). SenderStandsFor k s x frames bytes) e h
+stands_as c d s x frames bytes e h = rw e at h
+
+-- what a sender does by its own name of the network it does by another one
+pub stands_by : (c d : Config) (s n : Sender) (x : Content) (frames : List SentFrame) (bytes more : List ℕ) → d ≡ c
+    → (SenderStandsFor d s x frames bytes → SenderStandsFor d n x frames more) → SenderStandsFor c s x frames bytes
+    → SenderStandsFor c n x frames more
+stands_by c d s n x frames bytes more e does h = rw e at (does (rw e h))
+
+-- all complete units went out, as before
+sent_same : (c : Config) (m n : MendMachine) (made : List Made) (bytes : List ℕ) → n.sender ≡ m.sender
+    → HasSent c m made bytes → HasSent c n made bytes
+sent_same c m n made bytes sender h = record { content = h.content; stands = rw sender h.stands; caught = h.caught }
 
 -- ---- a feed took bytes, or its input ended
 
@@ -207,18 +217,11 @@ shown_fed c k done more m n s go same plan mender sender tally = record {
   come = go.come;
   made = s.made;
   past = s.past;
-  mends = subst (λ (x : Mender). MenderStandsFor x s.past) (sym mender) s.mends;
-  low = s.low ∙ sym (ap (λ (t : Tally). t.behind) tally);
-  tally = tally ∙ s.tally ∙ ap (tally_of s.made) (sym same);
+  mends = rw mender s.mends;
+  low = rw tally s.low;
+  tally = rw (tally, same) s.tally;
   splits = λ xs ys all. s.splits xs ys (go.back xs ys all);
-  is_at = record {
-    content = s.is_at.content;
-    stands = subst (λ (bytes : List ℕ). SenderStandsFor c n.sender s.is_at.content (frames_of c s.made) bytes)
-        (sym same)
-        (subst (λ (x : Sender). SenderStandsFor c x s.is_at.content (frames_of c s.made) (gave done))
-        (sym sender) s.is_at.stands);
-    caught = subst (HasGiven complete_units c (frames_of c s.made)) (sym same) s.is_at.caught;
-  };
+  is_at = rw same (sent_same c m n s.made (gave done) sender s.is_at);
   due = λ some. due_fed c k m.feeds.items done more s.gone s.come go.last n.feeds.items s.made s.past s.splits go.back
       s.is_at.caught same;
 }
@@ -231,15 +234,14 @@ come_given tell c k feeds done bytes gone h = record {
   count = h.count;
   each = λ i f is.
       let t = tell.given bytes done in
-      subst (λ (l : List ℕ). FeedHas c f l (events.has_ended i (done ++ Gave bytes ∷ [])) (gone i)) (sym (t.fed i))
-      (subst (λ (b : Bool). FeedHas c f (fed i done) b (gone i)) (sym (t.ended i)) (h.each i f is));
+      rw (t.fed i, t.ended i) (h.each i f is);
 }
 
 pub goes_given : (tell : EventsTell) (c : Config) (feeds : List Feed) (done : List Event) (bytes : List ℕ)
     (gone : ℕ → List FeedEvent) (xs ys : ℕ → Coming) → AllGo c feeds (done ++ Gave bytes ∷ []) gone xs ys
     → AllGo c feeds done gone xs ys
 goes_given tell c feeds done bytes gone xs ys all i f is =
-    subst (λ (l : List ℕ). Goes c f l (gone i) (xs i) (ys i)) ((tell.given bytes done).fed i) (all i f is)
+    rw ((tell.given bytes done).fed i) at (all i f is)
 
 pub ended_given : (tell : EventsTell) (k : ℕ) (done : List Event) (bytes : List ℕ) → AllEnded k done
     → AllEnded k (done ++ Gave bytes ∷ [])
@@ -252,30 +254,26 @@ pub shown_given : (tell : EventsTell) (c : Config) (k : ℕ) (done : List Event)
     → n.tally ≡ tally_of s.made (gave done ++ bytes)
     → ((xs ys : ℕ → Coming) → Splits c k from s.past s.made xs ys → Splits c k to s.past s.made xs ys)
     → IsAt c k to n s.made (done ++ Gave bytes ∷ []) → ShownAt c k (done ++ Gave bytes ∷ []) n to
-shown_given tell c k done bytes m n from to s plan feeds mender tally splits is_at = record {
-  plan = plan ∙ s.plan;
-  gone = s.gone;
-  come = subst (λ (l : List Feed). HaveCome c k l (done ++ Gave bytes ∷ []) s.gone) (sym feeds)
-      (come_given tell c k m.feeds.items done bytes s.gone s.come);
-  made = s.made;
-  past = s.past;
-  mends = subst (λ (x : Mender). MenderStandsFor x s.past) (sym mender) s.mends;
-  low = s.low ∙ ap (λ (t : Tally). t.behind) s.tally ∙ sym (ap (λ (t : Tally). t.behind) tally);
-  tally = tally ∙ ap (tally_of s.made) (sym (tell.given bytes done).gave);
-  splits = λ xs ys all.
-      splits xs ys (s.splits xs ys (goes_given tell c m.feeds.items done bytes s.gone xs ys
-      (subst (λ (l : List Feed). AllGo c l (done ++ Gave bytes ∷ []) s.gone xs ys) feeds all)));
-  is_at = is_at;
-  due = λ some.
-      due_on c k m.feeds.items n.feeds.items done (done ++ Gave bytes ∷ []) s.gone s.gone (tell.given bytes done).fed
-      (bytes, (tell.given bytes done).gave)
-      (λ xs ys all. (
-        ys,
-        goes_given tell c m.feeds.items done bytes s.gone xs ys
-            (subst (λ (l : List Feed). AllGo c l (done ++ Gave bytes ∷ []) s.gone xs ys) feeds all),
-      ))
-      (s.due some);
-}
+shown_given tell c k done bytes m n from to s plan feeds mender tally splits is_at =
+    let t = tell.given bytes done in
+    let were : (xs ys : ℕ → Coming) → AllGo c n.feeds.items (done ++ Gave bytes ∷ []) s.gone xs ys
+    → AllGo c m.feeds.items done s.gone xs ys =
+    rw feeds (goes_given tell c m.feeds.items done bytes s.gone) in
+    record {
+      plan = plan ∙ s.plan;
+      gone = s.gone;
+      come = rw feeds (come_given tell c k m.feeds.items done bytes s.gone s.come);
+      made = s.made;
+      past = s.past;
+      mends = rw mender s.mends;
+      low = s.low ∙ ap (λ (t : Tally). t.behind) s.tally ∙ sym (ap (λ (t : Tally). t.behind) tally);
+      tally = rw t.gave tally;
+      splits = λ xs ys all. splits xs ys (s.splits xs ys (were xs ys all));
+      is_at = is_at;
+      due = λ some.
+          due_on c k m.feeds.items n.feeds.items done (done ++ Gave bytes ∷ []) s.gone s.gone t.fed (bytes, t.gave)
+          (λ xs ys all. (ys, were xs ys all)) (s.due some);
+    }
 
 -- nothing was given
 pub shown_still : (tell : EventsTell) (c : Config) (k : ℕ) (done : List Event) (m : MendMachine) (p : Place)
@@ -290,15 +288,15 @@ shown_still tell c k done m p s =
     same = (tell.given [] done).gave ∙ append-nil (gave done)
 
     at_still : (p : Place) → IsAt c k p m s.made done → IsAt c k p m s.made (done ++ Gave [] ∷ [])
-    at_still Looks a = subst (HasSent c m s.made) (sym same) a
-    at_still (Passes number silent) a = (subst (HasSent c m s.made) (sym same) a.0, a.1)
-    at_still (Sends n from) a = subst (IsSending c m n from s.made) (sym same) a
+    at_still Looks a = rw same a
+    at_still (Passes number silent) a = (rw same a.0, a.1)
+    at_still (Sends n from) a = rw same a
     at_still Rests a = record {
       ended = ended_given tell k done [] a.ended;
       content = a.content;
-      stands = subst (SenderStandsFor c m.sender a.content (frames_of c s.made)) (sym same) a.stands;
+      stands = rw same a.stands;
     }
-    at_still Done a = (ended_given tell k done [] a.0, subst (HasGiven pipe c (frames_of c s.made)) (sym same) a.1)
+    at_still Done a = (ended_given tell k done [] a.0, rw same a.1)
 
 -- ---- what is next is passed
 
@@ -311,23 +309,38 @@ shown_passed c k done m n number silent s p plan mender sender tally = record {
   come = p.come;
   made = s.made;
   past = s.past;
-  mends = subst (λ (x : Mender). MenderStandsFor x s.past) (sym mender) s.mends;
-  low = s.low ∙ sym (ap (λ (t : Tally). t.behind) tally);
+  mends = rw mender s.mends;
+  low = rw tally s.low;
   tally = tally ∙ s.tally;
   splits = λ xs ys all.
       let b = p.back xs ys all in
       s.splits xs b.0 b.1
       ∙ ap (λ (l : List Made). s.made ++ l) (picks_same (taking c) k s.past (all_behind number silent b.0) ys b.2);
-  is_at = record {
-    content = s.is_at.0.content;
-    stands = subst (λ (x : Sender). SenderStandsFor c x s.is_at.0.content (frames_of c s.made) (gave done))
-        (sym sender) s.is_at.0.stands;
-    caught = s.is_at.0.caught;
-  };
+  is_at = sent_same c m n s.made (gave done) sender s.is_at.0;
   due = λ some.
       due_on c k m.feeds.items n.feeds.items done done s.gone p.past (λ i. refl) ([], sym (append-nil (gave done)))
       (λ xs ys all. let b = p.back xs ys all in (b.0, b.1))
       (s.due some);
+}
+
+-- the feeds stay as they were, and nothing was fed or given
+shown_on : (c : Config) (k : ℕ) (done : List Event) (m n : MendMachine) (s : ShownAt c k done m Looks) (to : Place)
+    (made : List Made) (past : List Numbered) → n.plan.now ≡ m.plan.now → n.feeds.items ≡ m.feeds.items
+    → MenderStandsFor n.mender past → low_of past ≡ n.tally.behind → n.tally ≡ tally_of made (gave done)
+    → ((xs ys : ℕ → Coming) → AllGo c m.feeds.items done s.gone xs ys → Splits c k to past made xs ys)
+    → IsAt c k to n made done → ShownAt c k done n to
+shown_on c k done m n s to made past plan feeds mends low tally splits is_at = record {
+  plan = plan ∙ s.plan;
+  gone = s.gone;
+  come = rw feeds s.come;
+  made = made;
+  past = past;
+  mends = mends;
+  low = low;
+  tally = tally;
+  splits = rw feeds splits;
+  is_at = is_at;
+  due = rw feeds s.due;
 }
 
 -- before that it is known what is
@@ -338,29 +351,10 @@ pub shown_passes : (c : Config) (k : ℕ) (done : List Event) (m n : MendMachine
     → ((xs ys : ℕ → Coming) → AllGo c m.feeds.items done s.gone xs ys
     → picks_from (taking c) k s.past ys ≡ picks_from (taking c) k s.past (all_behind number silent ys))
     → ShownAt c k done n (Passes number silent)
-shown_passes c k done m n number silent s plan feeds mends sender tally known next = record {
-  plan = plan ∙ s.plan;
-  gone = s.gone;
-  come = subst (λ (l : List Feed). HaveCome c k l done s.gone) (sym feeds) s.come;
-  made = s.made;
-  past = s.past;
-  mends = mends;
-  low = s.low ∙ sym (ap (λ (t : Tally). t.behind) tally);
-  tally = tally ∙ s.tally;
-  splits = λ xs ys all.
-      let were = subst (λ (l : List Feed). AllGo c l done s.gone xs ys) feeds all in
-      s.splits xs ys were ∙ ap (λ (l : List Made). s.made ++ l) (next xs ys were);
-  is_at = (
-    record {
-      content = s.is_at.content;
-      stands = subst (λ (x : Sender). SenderStandsFor c x s.is_at.content (frames_of c s.made) (gave done))
-          (sym sender) s.is_at.stands;
-      caught = s.is_at.caught;
-    },
-    subst AllKnown (sym feeds) known,
-  );
-  due = λ some. subst (λ (l : List Feed). HasDue c k l done s.gone) (sym feeds) (s.due some);
-}
+shown_passes c k done m n number silent s plan feeds mends sender tally known next =
+    shown_on c k done m n s (Passes number silent) s.made s.past plan feeds mends (rw tally s.low) (tally ∙ s.tally)
+    (λ xs ys all. s.splits xs ys all ∙ ap (λ (l : List Made). s.made ++ l) (next xs ys all))
+    (sent_same c m n s.made (gave done) sender s.is_at, rw feeds known)
 
 -- ---- a frame is begun
 
@@ -384,30 +378,17 @@ shown_begun c k done m n number from woven g y s plan feeds mends tally known on
     let x : Made = made_as number woven g in
     let total : n.tally ≡ tally_of (s.made ++ x ∷ []) (gave done) =
     tally ∙ ap (λ (t : Tally). with_frame t number woven) s.tally ∙ tally_frame s.made x (gave done) in
-    record {
-      plan = plan ∙ s.plan;
-      gone = s.gone;
-      come = subst (λ (l : List Feed). HaveCome c k l done s.gone) (sym feeds) s.come;
-      made = s.made ++ x ∷ [];
-      past = record { number = number; group = g } ∷ s.past;
-      mends = mends;
-      low = sym (ap (λ (t : Tally). t.behind) tally);
-      tally = total;
-      splits = λ xs ys all.
-          let were = subst (λ (l : List Feed). AllGo c l done s.gone xs ys) feeds all in
-          s.splits xs ys were ∙ ap (λ (l : List Made). s.made ++ l) (next xs ys were)
-          ∙ sym (append_assoc s.made (x ∷ []) (picks_from (taking c) k (record { number = number; group = g } ∷ s.past)
-          (all_behind (Some number) true ys)));
-      is_at = record {
-        stands = subst (λ (z : Content). SenderStandsFor c n.sender z (frames_of c (s.made ++ x ∷ [])) (gave done)) lent
-            (subst (λ (l : List SentFrame). SenderStandsFor c n.sender y l (gave done))
-            (ap (λ (z : Content). frames_of c s.made ++ sent_as c number z ∷ []) content ∙ frames_push c s.made x)
-            sends);
-        known = subst AllKnown (sym feeds) known;
-        passes = subst (OnePasses (Some number) true) (sym feeds) one;
-      };
-      due = λ some. subst (λ (l : List Feed). HasDue c k l done s.gone) (sym feeds) (s.due some);
-    }
+    shown_on c k done m n s (Sends number from) (s.made ++ x ∷ []) (record { number = number; group = g } ∷ s.past) plan
+    feeds mends (rw tally refl) total
+    (λ xs ys all. s.splits xs ys all ∙ ap (λ (l : List Made). s.made ++ l) (next xs ys all)
+    ∙ sym (append_assoc s.made (x ∷ []) (picks_from (taking c) k (record { number = number; group = g } ∷ s.past)
+    (all_behind (Some number) true ys))))
+    (record {
+      stands = rw (← lent, ← frames_push c s.made x) (subst (λ (z : Content). SenderStandsFor c n.sender y
+          (frames_of c s.made ++ sent_as c number z ∷ []) (gave done)) content sends);
+      known = rw feeds known;
+      passes = rw feeds one;
+    })
 
 -- ---- no frame comes
 
@@ -417,18 +398,7 @@ pub shown_finished : (c : Config) (k : ℕ) (done : List Event) (m n : MendMachi
     → SenderStandsFor c n.sender s.is_at.content (frames_of c s.made) (gave done)
     → ((xs ys : ℕ → Coming) → AllGo c m.feeds.items done s.gone xs ys → picks_from (taking c) k s.past ys ≡ [])
     → ShownAt c k done n Rests
-shown_finished c k done m n s plan feeds mender tally ended sends none = record {
-  plan = plan ∙ s.plan;
-  gone = s.gone;
-  come = subst (λ (l : List Feed). HaveCome c k l done s.gone) (sym feeds) s.come;
-  made = s.made;
-  past = s.past;
-  mends = subst (λ (x : Mender). MenderStandsFor x s.past) (sym mender) s.mends;
-  low = s.low ∙ sym (ap (λ (t : Tally). t.behind) tally);
-  tally = tally ∙ s.tally;
-  splits = λ xs ys all.
-      let were = subst (λ (l : List Feed). AllGo c l done s.gone xs ys) feeds all in
-      s.splits xs ys were ∙ ap (λ (l : List Made). s.made ++ l) (none xs ys were) ∙ append-nil s.made;
-  is_at = record { ended = ended; content = s.is_at.content; stands = sends };
-  due = λ some. subst (λ (l : List Feed). HasDue c k l done s.gone) (sym feeds) (s.due some);
-}
+shown_finished c k done m n s plan feeds mender tally ended sends none =
+    shown_on c k done m n s Rests s.made s.past plan feeds (rw mender s.mends) (rw tally s.low) (tally ∙ s.tally)
+    (λ xs ys all. s.splits xs ys all ∙ ap (λ (l : List Made). s.made ++ l) (none xs ys all) ∙ append-nil s.made)
+    (record { ended = ended; content = s.is_at.content; stands = sends })

@@ -1,6 +1,6 @@
 -- The steps of a run: which frames come next.
 use Rattle.std.proofs.Common.{◌≡◌, ◌≢◌, ◌⊎◌, inl, inr, ℕ, zero, suc, ◌-◌, ◌<◌, ◌≤◌, Bool, true, false, List, [], ◌∷◌}
-use Rattle.std.proofs.Common.{◌++◌, length, Option, Some, None, refl, ap, sym, subst, ◌∙◌, ⊎_elim, arith}
+use Rattle.std.proofs.Common.{◌++◌, length, Option, Some, None, refl, ap, sym, ◌∙◌, ⊎_elim, arith}
 use Rattle.std.specs.Prelude.{nat_lt, slice_get, option_to_list}
 use Rattle.std.proofs.lemmas.Bool.{true≢false, cond-true, cond-false, cases_lt, eq-eqb, lt-ltb, le-ltb}
 use Rattle.std.proofs.lemmas.Option.{same_Some}
@@ -54,12 +54,8 @@ least_at feeds (suc k) n e = ⊎_elim
     let x = least_at feeds k n a in
     let l = x.inside in
     record { input = x.input; inside = omega (arith, l); is = x.is })
-    (λ (a : number_at (head_at feeds k) ≡ Some n). record {
-      input = k;
-      inside = omega arith;
-      is = number_is
-          (head_at feeds k) n a;
-    })
+    (λ (a : number_at (head_at feeds k) ≡ Some n).
+    record { input = k; inside = omega arith; is = number_is (head_at feeds k) n a })
     (lesser_is (least_head k (head_at feeds)) (number_at (head_at feeds k)) n e)
 
 pub early_at : (feeds : List Feed) (n : ℕ) → IsNextAt feeds (length feeds) n → n < MOST_FRAMES
@@ -133,7 +129,7 @@ module _ (c : Config) (k : ℕ) (feeds : List Feed) (done : List Event) (gone : 
   all_begin i l =
       let count = h.count in
       let f = get_at feeds i (omega (arith, l, count)) in
-      subst (λ (d : Head). Begins d (ys i)) (sym (known_at feeds i f.0 f.1))
+      rw (known_at feeds i f.0 f.1)
       (begins c f.0 (fed i done) _ (gone i) (xs i) (ys i) (h.each i f.0 f.1) (all i f.0 f.1))
 
   least_is : least_next k ys ≡ least_head k (head_at feeds)

@@ -1,6 +1,6 @@
 -- What is counted.
 use Rattle.std.proofs.Common.{◌≡◌, ◌≢◌, ℕ, suc, ◌+◌, ◌-◌, ◌/◌, ◌%◌, ◌^◌, ◌<◌, ◌==◌, Bool, true, false, cond, List, []}
-use Rattle.std.proofs.Common.{◌∷◌, ◌++◌, length, refl, ap, ap₂, sym, ◌∙◌, arith, length-append}
+use Rattle.std.proofs.Common.{◌∷◌, ◌++◌, length, refl, ap, sym, ◌∙◌, arith, length-append}
 use Rattle.std.specs.List.{filter}
 use Rattle.std.proofs.lemmas.Bool.{true≢false, eqb-true}
 use Rattle.std.proofs.lemmas.List.Elements.{filter-append}
@@ -9,23 +9,6 @@ use Rattle.terms.proofs.CaseLemmas.{bool_cases}
 use Rattle.mended_frames.specs.Mended.{Made}
 use Rattle.mend_run.specs.Counted.{told, is_woven, last_from, span, counted}
 use Rattle.mend_run.specs.Shown.{with_frame, with_units, ran_of, first_of, behind_of, tally_of}
-use Rattle.mend_run.specs.declared.stop.MendRan.{MendRan}
-use Rattle.mend_run.specs.declared.tally.Tally.{Tally}
-
-abbrev tally : ℕ → ℕ → ℕ → ℕ → ℕ → Tally
-tally first behind frames woven units = record {
-  first = first;
-  behind = behind;
-  frames = frames;
-  woven =
-      woven;
-  units = units;
-}
-
-same_tally : (a b c d e f g h i j : ℕ) → a ≡ f → b ≡ g → c ≡ h → d ≡ i → e ≡ j → tally a b c d e ≡ tally f g h i j
-same_tally a b c d e f g h i j p q r s t =
-    ap (λ (x : ℕ). tally x b c d e) p ∙ ap (λ (x : ℕ). tally f x c d e) q ∙ ap (λ (x : ℕ). tally f g x d e) r
-    ∙ ap (λ (x : ℕ). tally f g h x e) s ∙ ap (tally f g h i) t
 
 first_push : (made : List Made) (x : Made) → cond (told (length made) == 0) x.number (first_of made) ≡ first_of
     (made ++ x ∷ [])
@@ -64,20 +47,18 @@ woven_push made x t e =
 pub tally_frame : (made : List Made) (x : Made) (bytes : List ℕ)
     → with_frame (tally_of made bytes) x.number x.is_woven ≡ tally_of (made ++ x ∷ []) bytes
 tally_frame made x bytes =
-    same_tally (cond (told (length made) == 0) x.number (first_of made)) (x.number + 1) (told (told (length made) + 1))
-    (cond x.is_woven (told (told (length (filter is_woven made)) + 1)) (told (length (filter is_woven made))))
-    (told (length bytes / SIZE))
-    (first_of (made ++ x ∷ [])) (behind_of (made ++ x ∷ [])) (told (length (made ++ x ∷ [])))
-    (told (length (filter is_woven (made ++ x ∷ [])))) (told (length bytes / SIZE))
-    (first_push made x) (behind_push made x) (let l = length-append made (x ∷ []) in omega (arith, l))
-    (woven_push made x x.is_woven refl) refl
+    let frames : told (told (length made) + 1) ≡ told (length (made ++ x ∷ [])) =
+    (let l = length-append made (x ∷ []) in omega (arith, l)) in
+    cc (first_push made x, behind_push made x, frames, woven_push made x x.is_woven refl)
 
 -- whole units more
 pub tally_units : (made : List Made) (bytes more : List ℕ) (len : ℕ) → length more ≡ len → len % SIZE ≡ 0
     → with_units (tally_of made bytes) (len / SIZE) ≡ tally_of made (bytes ++ more)
 tally_units made bytes more len is whole =
-    ap (tally (first_of made) (behind_of made) (told (length made)) (told (length (filter is_woven made))))
-    (let l = length-append bytes more in omega (arith, l, is, whole))
+    let l = length-append bytes more in
+    let units : told (told (length bytes / SIZE) + len / SIZE) ≡ told (length (bytes ++ more) / SIZE) =
+    omega (arith, l, is, whole) in
+    cc
 
 -- ---- what is told at the end
 
@@ -92,12 +73,8 @@ missing_is m n l = omega (arith, l)
 pub ran_is : (made : List Made) (bytes : List ℕ) (units : ℕ) → behind_of made < 2 ^ 64 → length bytes / SIZE ≡ units
     → ran_of (tally_of made bytes) ≡ counted made units
 ran_is made bytes units small is =
-    ap₂ (λ (m u : ℕ). ran (told (length made)) (told (length (filter is_woven made))) m u)
-    (missing_is (behind_of made - first_of made) (length made) (omega (arith, small))
-    ∙ ap (λ (m : ℕ). m - length made) (sym (span_is made))) (ap told is)
-  where
-    ran : ℕ → ℕ → ℕ → ℕ → MendRan
-    ran f w m u = record { frames = f; woven = w; missing = m; units = u }
+    let missing = missing_is (behind_of made - first_of made) (length made) (omega (arith, small)) in
+    cc (missing, span_is made, is)
 
 -- no frame was told exactly if none was sent
 pub none_told : (made : List Made) → (told (length made) == 0) ≡ true → made ≡ []

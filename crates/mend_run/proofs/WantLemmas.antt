@@ -9,10 +9,10 @@ use Rattle.feed_events.specs.StandsFor.{fed_of, has_ended}
 use Rattle.mended_frames.specs.StandsFor.{Feed}
 use Rattle.file_run.specs.Events.{Event, fed}
 use Rattle.file_run.specs.FileRun.{read_ahead}
-use Rattle.file_run.specs.Steps.{IsWanted}
+use Rattle.file_run.specs.Steps.{IsWanted, Suffices, FallsShort, Needs}
 use Rattle.file_run.specs.declared.machine.Step.{Step}
 use Rattle.file_run.specs.declared.machine.Step.TheVariants.{Read, Give, End}
-use Rattle.mend_run.specs.AsMachine.{step_in, reach_of}
+use Rattle.mend_run.specs.AsMachine.{step_in, step_of, reach_of}
 use Rattle.mend_run.specs.Row.{HaveCome, first_waiting, wants}
 use Rattle.mend_run.specs.declared.machine.MendMachine.{MendMachine}
 use Rattle.mend_run.specs.declared.phase.Phase.{Phase}
@@ -21,26 +21,45 @@ use Rattle.mend_run.proofs.FeedLemmas.{fed_all, fed_most}
 use Rattle.mend_run.proofs.RowLemmas.{IsFirst, first_some, get_at, get_too, known_at}
 use Rattle.feed_events.specs.FeedEvents.{FeedEvent}
 
--- A feed is asked for bytes: the first of which it is not known what is next.
-pub record IsAsked (Asks : Step → ℕ → ℕ → Type 0) (p : Phase) (feeds : List Feed) (input count : ℕ) : Type 0 where
-  pub feed : ℕ
-  pub looks : p ≡ phase.Looks
-  pub waits : IsFirst feeds feed
-  pub first : first_waiting feeds ≡ Some feed
-  pub asks : Asks (Read feed SIZE read_ahead) input count
+-- A feed is asked for bytes of this input: the first of which it is not known what is next.
+pub record IsAsked (m : MendMachine) (input : ℕ) : Type 0 where
+  pub looks : m.phase ≡ phase.Looks
+  pub waits : IsFirst m.feeds.items input
+  pub first : first_waiting m.feeds.items ≡ Some input
 
-pub asked : (Asks : Step → ℕ → ℕ → Type 0) → ((i n : ℕ) → Asks Give i n → ⊥) → ((i n : ℕ) → Asks End i n → ⊥)
-    → (p : Phase)
-    (feeds : List Feed) (input count : ℕ) → Asks (step_in p feeds) input count → IsAsked Asks p feeds input count
-asked Asks give end phase.Looks feeds input count h = go (first_waiting feeds) refl h
+asked : (Asks : Step → ℕ → ℕ → Type 0) (m : MendMachine) (input count : ℕ) → (Asks Give input count → ⊥)
+    → (Asks End input count → ⊥) → ((i : ℕ) → Asks (Read i SIZE read_ahead) input count → i ≡ input)
+    → Asks (step_of m) input count → IsAsked m input × Asks (Read input SIZE read_ahead) input count
+asked Asks m input count give end of h = by m.phase refl h
   where
-    go : (o : Option ℕ) → first_waiting feeds ≡ o → Asks (wants o) input count
-        → IsAsked Asks phase.Looks feeds input count
-    go None e h = absurd (give input count h)
-    go (Some w) e h = record { feed = w; looks = refl; waits = first_some feeds w e; first = e; asks = h }
-asked Asks give end (phase.Sends n from) feeds input count h = absurd (give input count h)
-asked Asks give end phase.Rests feeds input count h = absurd (give input count h)
-asked Asks give end phase.Done feeds input count h = absurd (end input count h)
+    go : m.phase ≡ phase.Looks → (o : Option ℕ) → first_waiting m.feeds.items ≡ o → Asks (wants o) input count
+        → IsAsked m input × Asks (Read input SIZE read_ahead) input count
+    go looks None e h = absurd (give h)
+    go looks (Some w) e h =
+        let at = of w h in
+        let first : first_waiting m.feeds.items ≡ Some input = e ∙ ap Some at in (
+          record { looks = looks; waits = first_some m.feeds.items input first; first = first },
+          subst (λ (i : ℕ). Asks (Read i SIZE read_ahead) input count) at h,
+        )
+
+    by : (p : Phase) → m.phase ≡ p → Asks (step_in p m.feeds.items) input count
+        → IsAsked m input × Asks (Read input SIZE read_ahead) input count
+    by phase.Looks e h = go e (first_waiting m.feeds.items) refl h
+    by (phase.Sends n from) e h = absurd (give h)
+    by phase.Rests e h = absurd (give h)
+    by phase.Done e h = absurd (end h)
+
+-- so many bytes are enough, too few, or no more than are wanted
+pub enough : (m : MendMachine) (input count : ℕ) → Suffices (step_of m) input count → IsAsked m input × (SIZE ≤ count)
+enough m input count h =
+    let w = asked Suffices m input count (λ z. z) (λ z. z) (λ i z. z.0) h in (w.0, w.1.1)
+
+pub short : (m : MendMachine) (input count : ℕ) → FallsShort (step_of m) input count → IsAsked m input × (count < SIZE)
+short m input count h =
+    let w = asked FallsShort m input count (λ z. z) (λ z. z) (λ i z. z.0) h in (w.0, w.1.1)
+
+pub needs : (m : MendMachine) (input count : ℕ) → Needs (step_of m) input count → IsAsked m input × (count ≤ SIZE)
+needs m input count h = let w = asked Needs m input count (λ z. z) (λ z. z) (λ i z. z.0) h in (w.0, w.1.1)
 
 pub reach_more : (old new : List Feed) → length new ≡ length old
     → ((i : ℕ) (f h : Feed) → slice_get old i ≡ Some f → slice_get new i ≡ Some h → fed_of f ≤ fed_of h)
@@ -59,11 +78,8 @@ pub reach_by : (old mid new now : List Feed) → mid ≡ old → now ≡ new →
     → (i : ℕ) → option_map_or fed_of (slice_get old i) 0 + read_ahead ≤ option_map_or fed_of (slice_get now i)
     0 + read_ahead
 reach_by old mid new now was is len more i =
-    let r = subst (λ (l : List Feed). option_map_or fed_of (slice_get l i) 0 ≤ option_map_or fed_of (slice_get now i) 0)
-    was
-    (subst (λ (l : List Feed). option_map_or fed_of (slice_get mid i) 0 ≤ option_map_or fed_of (slice_get l i) 0)
-    (sym is)
-    (reach_more mid new len more i)) in
+    let r : option_map_or fed_of (slice_get old i) 0 ≤ option_map_or fed_of (slice_get now i) 0 =
+    rw (← was, is) (reach_more mid new len more i) in
     omega (arith, r)
 
 module _ (c : Config) (k : ℕ) (m : MendMachine) (done : List Event) (gone : ℕ → List FeedEvent)

@@ -1,8 +1,8 @@
 -- What a run does by its files.
 use Rattle.std.proofs.Common.{◌≡◌, ◌≢◌, ℕ, zero, suc, ◌+◌, ◌-◌, ◌/◌, ◌^◌, ◌<◌, ◌≤◌, ◌==◌, Bool, true, false, cond}
 use Rattle.std.proofs.Common.{List, [], ◌∷◌, ◌++◌, length, take, take_at, append_assoc, length-append}
-use Rattle.std.proofs.Common.{Option, Some, None, refl, ap, ap₂, sym, subst, ◌∙◌, arith, append-nil}
-use Rattle.std.specs.Prelude.{Err, not, slice_get, slice_index}
+use Rattle.std.proofs.Common.{Option, Some, None, refl, ap, sym, subst, ◌∙◌, arith, append-nil}
+use Rattle.std.specs.Prelude.{not, slice_get, slice_index}
 use Rattle.std.specs.Option.{option_map_or}
 use Rattle.std.proofs.lemmas.Bool.{true≢false, eq-eqb, eqb-true}
 use Rattle.std.proofs.lemmas.List.{map-append, take_all}
@@ -31,7 +31,6 @@ use Rattle.spaced_frames.specs.Spaced.{SentFrame, spaced}
 use Rattle.mended_frames.specs.Feeds.{all_of, known_of, made_of_all, made_of_known, units_of}
 use Rattle.mended_frames.specs.Mended.{Made, mended, taking, frame_of, frames_of, packets_of}
 use Rattle.mended_frames.specs.StandsFor.{Feed, pooled_of, lent_content}
-use Rattle.mended_frames.specs.declared.mender.Source.{Source}
 use Rattle.file_run.specs.Reading.{longest_file}
 use Rattle.file_run.specs.Events.{Event, fed, gave}
 use Rattle.file_run.specs.Events as events
@@ -39,17 +38,16 @@ use Rattle.file_run.specs.FileRun.{AreFed, IsFed, read_ahead}
 use Rattle.file_run.specs.Steps.{Needs, FallsShort}
 use Rattle.file_run.specs.Work.{AreWhole, AreWithin, IsRightAtEnd, GaveSome, DoesWork}
 use Rattle.file_run.specs.declared.machine.Step.TheVariants.{Read, Give, End}
-use Rattle.file_run.specs.declared.stop.RunFault.TheVariants.{TooLong, ReadFault}
-use Rattle.file_run.specs.declared.stop.RunStop.TheVariants.{Files}
 use Rattle.file_run.proofs.StandsLemmas.{fed_since}
 use Rattle.file_run.proofs.WorkLemmas.{are_whole}
 use Rattle.mend_run.specs.AsMachine.{Becomes, step_in, step_of, reach_of, ending_of}
 use Rattle.mend_run.specs.Counted.{counted}
+use Rattle.mend_run.specs.MendRun.{HasRead, HasNearly}
 use Rattle.mend_run.specs.MendRun.{MendsAll, HasNone, AreTaken, HasWritten, HasSome, mend_work}
 use Rattle.mend_run.specs.MendRun.{taken_but, ended_but, complete_by}
 use Rattle.mend_run.specs.Row.{Goes, FeedHas, AllGo, AreSame, first_waiting, wants}
 use Rattle.mend_run.specs.Shown.{Place, Looks, Passes, Sends, Rests, Done, Splits, HasDue, ShownAt, known_by}
-use Rattle.mend_run.specs.Shown.{place_of, ran_of}
+use Rattle.mend_run.specs.Shown.{Shown, place_of, ran_of}
 use Rattle.mend_run.specs.declared.machine.MendMachine.{MendMachine}
 use Rattle.mend_run.specs.declared.phase.Phase.{Phase}
 use Rattle.mend_run.specs.declared.phase.Phase.TheVariants as phase
@@ -58,7 +56,7 @@ use Rattle.mend_run.proofs.FeedLemmas.{fed_most, CanGo, some_way, behind_front}
 use Rattle.mend_run.proofs.RowLemmas.{get_at, known_at, IsFirst, first_some}
 use Rattle.mend_run.proofs.ShownLemmas.{at_place, coming}
 use Rattle.mend_run.proofs.TallyLemmas.{ran_is, none_told, some_told}
-use Rattle.mend_run.proofs.WantLemmas.{asked}
+use Rattle.mend_run.proofs.WantLemmas.{needs, short}
 use Rattle.mend_run.proofs.UnitLemmas.{count_is, sent_front, sent_all}
 
 -- ---- how a feed goes on
@@ -99,38 +97,11 @@ nothing_next c f bytes ended gone h e y go =
 
 nothing_made : (c : Config) (made : List Made) → made ≡ [] → joined (pipe c.pid (packets_of c made)) ≡ []
 unfolding spaced units_in
-nothing_made c made none = ap (λ (m : List Made). joined (pipe c.pid (packets_of c m))) none
+nothing_made c made none = rw none refl
 
 mended_same : (c : Config) (k : ℕ) (xs ys : ℕ → Coming) → AreSame k xs ys → mended c k xs ≡ mended c k ys
 unfolding mended
 mended_same c k xs ys same = picks_same (taking c) k [] xs ys same
-
-looks_at : (p : Phase) → place_of p ≡ Looks → p ≡ phase.Looks
-looks_at phase.Looks e = refl
-looks_at (phase.Sends n from) e = absurd (let z : Sends n from ≡ Looks = e in cc)
-looks_at phase.Rests e = absurd (let z : Rests ≡ Looks = e in cc)
-looks_at phase.Done e = absurd (let z : Done ≡ Looks = e in cc)
-
-not_passes : (p : Phase) (number : Option ℕ) (silent : Bool) → place_of p ≡ Passes number silent → ⊥
-not_passes phase.Looks number silent e = let z : Looks ≡ Passes number silent = e in cc
-not_passes (phase.Sends n from) number silent e = let z : Sends n from ≡ Passes number silent = e in cc
-not_passes phase.Rests number silent e = let z : Rests ≡ Passes number silent = e in cc
-not_passes phase.Done number silent e = let z : Done ≡ Passes number silent = e in cc
-
-sends_at : (p : Phase) (n : ℕ) (from : Source) → place_of p ≡ Sends n from → p ≡ phase.Sends n from
-sends_at phase.Looks n from e = absurd (let z : Looks ≡ Sends n from = e in cc)
-sends_at (phase.Sends m other) n from e =
-    ap₂ (λ (x : ℕ) (y : Source). phase.Sends x y) (ap (number_of m) e) (ap (source_of other) e)
-  where
-    number_of : ℕ → Place → ℕ
-    number_of d (Sends x y) = x
-    number_of d p = d
-
-    source_of : Source → Place → Source
-    source_of d (Sends x y) = y
-    source_of d p = d
-sends_at phase.Rests n from e = absurd (let z : Rests ≡ Sends n from = e in cc)
-sends_at phase.Done n from e = absurd (let z : Done ≡ Sends n from = e in cc)
 
 -- ---- so many bytes of one input, and all bytes of the others
 
@@ -166,6 +137,17 @@ some_inputs c zero files bytes (x ∷ more) tail is some =
     omega (arith, e, length-append (bytes ++ x ∷ more) tail, length-append bytes (x ∷ more)))
 some_inputs c (suc k) files bytes more tail is some = omega arith
 
+-- it is at its end in one phase only
+done_at : (p : Phase) (feeds : List Feed) → step_in p feeds ≡ End → p ≡ phase.Done
+done_at phase.Looks feeds e = absurd (no_end (first_waiting feeds) e)
+  where
+    no_end : (o : Option ℕ) → wants o ≡ End → ⊥
+    no_end None e = let z : Give ≡ End = e in cc
+    no_end (Some w) e = let z : Read w SIZE read_ahead ≡ End = e in cc
+done_at (phase.Sends n from) feeds e = absurd (let z : Give ≡ End = e in cc)
+done_at phase.Rests feeds e = absurd (let z : Give ≡ End = e in cc)
+done_at phase.Done feeds e = refl
+
 -- ---- what was done to a machine by some files
 
 module _ (reads : UnitReads) (c : Config) (k : ℕ) (now : MendMachine) (files : ℕ → List ℕ) (places : List ℕ)
@@ -177,25 +159,43 @@ module _ (reads : UnitReads) (c : Config) (k : ℕ) (now : MendMachine) (files :
   abbrev ended : ℕ → Bool
   ended = λ i. events.has_ended i done
 
+  -- how the feeds go on, where each can go on so
+  module _ (p : Place) (s : ShownAt c k done now p) (over : ℕ → Bool) (to : ℕ → List ℕ)
+      (can : (i : ℕ) (f : Feed) → slice_get now.feeds.items i ≡ Some f
+      → CanGo (has_ended f) c.pid (fed i done) (over i) (to i)) where
+    way : (i : ℕ) (f : Feed) → slice_get now.feeds.items i ≡ Some f → Way c f (fed i done) (s.gone i) (over i) (to i)
+    way i f is =
+        let w = can i f is in
+        way_on c f (fed i done) (ended i) (s.gone i) (s.come.each i f is) (over i) (to i) w.later w.can
+
+    abbrev rest_at : (i : ℕ) (o : Option Feed) → slice_get now.feeds.items i ≡ o → Coming
+    rest_at i None e = coming [] true
+    rest_at i (Some f) e = (way i f e).rest
+
+    abbrev rest : ℕ → Coming
+    rest i = rest_at i (slice_get now.feeds.items i) refl
+
+    goes_at : (i : ℕ) (f : Feed) → slice_get now.feeds.items i ≡ Some f
+        → (o : Option Feed) (e : slice_get now.feeds.items i ≡ o)
+        → Goes c f (fed i done) (s.gone i) (coming (feed_events (rules c) (over i) (to i)) (over i)) (rest_at i o e)
+    goes_at i f is None e = none_some f (sym e ∙ is)
+    goes_at i f is (Some g) e =
+        subst (λ (z : Feed). Goes c z (fed i done) (s.gone i) (coming (feed_events (rules c) (over i) (to i)) (over i))
+        (rest_at i (Some g) e)) (same_Some g f (sym e ∙ is)) (way i g e).goes
+
+    go_so : AllGo c now.feeds.items done s.gone (λ i. coming (feed_events (rules c) (over i) (to i)) (over i)) rest
+    go_so i f is = goes_at i f is (slice_get now.feeds.items i) refl
+
   module _ (p : Place) (s : ShownAt c k done now p) where
-    feed_in : (i : ℕ) → i < k → (f : Feed) × (slice_get now.feeds.items i ≡ Some f)
-    feed_in i l = let count = s.come.count in get_at now.feeds.items i (omega (arith, l, count))
-
-    inside : (i : ℕ) (f : Feed) → slice_get now.feeds.items i ≡ Some f → i < k
-    inside i f is =
-        let count = s.come.count in
-        let l = slice_get_within now.feeds.items i f is in
-        omega (arith, l, count)
-
     -- the whole file
     whole_can : (i : ℕ) (f : Feed) → slice_get now.feeds.items i ≡ Some f
         → CanGo (has_ended f) c.pid (fed i done) true (files i)
     whole_can i f is = by (has_ended f) (s.come.each i f is).end
       where
-        a : IsFed (files i) (slice_index places i) (fed i done) (events.has_ended i done)
-        a = are i (inside i f is)
+        a : IsFed (files i) (slice_index places i) (fed i done) (ended i)
+        a = are i (let n = s.come.count in let l = slice_get_within now.feeds.items i f is in omega (arith, l, n))
 
-        by : (b : Bool) → b ≡ events.has_ended i done → CanGo b c.pid (fed i done) true (files i)
+        by : (b : Bool) → b ≡ ended i → CanGo b c.pid (fed i done) true (files i)
         by false e = record { later = arrivals_behind c.pid (fed i done) a.more; can = (a.more, a.parts, refl) }
         by true e = record {
           later = [];
@@ -206,38 +206,21 @@ module _ (reads : UnitReads) (c : Config) (k : ℕ) (now : MendMachine) (files :
           );
         }
 
-    whole_way : (i : ℕ) (f : Feed) → slice_get now.feeds.items i ≡ Some f
-        → Way c f (fed i done) (s.gone i) true (files i)
-    whole_way i f is =
-        let can = whole_can i f is in
-        way_on c f (fed i done) (events.has_ended i done) (s.gone i) (s.come.each i f is) true (files i)
-        can.later can.can
+    abbrev whole_rest : ℕ → Coming
+    whole_rest = rest p s (λ i. true) files whole_can
 
-    abbrev rest_at : (i : ℕ) (o : Option Feed) → slice_get now.feeds.items i ≡ o → Coming
-    rest_at i None e = coming [] true
-    rest_at i (Some f) e = (whole_way i f e).rest
-
-    goes_at : (i : ℕ) (f : Feed) → slice_get now.feeds.items i ≡ Some f
-        → (o : Option Feed) (e : slice_get now.feeds.items i ≡ o)
-        → Goes c f (fed i done) (s.gone i) (all_of c files i) (rest_at i o e)
-    goes_at i f is None e = none_some f (sym e ∙ is)
-    goes_at i f is (Some g) e =
-        subst (λ (z : Feed). Goes c z (fed i done) (s.gone i) (all_of c files i) (rest_at i (Some g) e))
-        (same_Some g f (sym e ∙ is))
-        (whole_way i g e).goes
-
-    all_goes : AllGo c now.feeds.items done s.gone (all_of c files) (λ i. rest_at i (slice_get now.feeds.items i) refl)
-    all_goes i f is = goes_at i f is (slice_get now.feeds.items i) refl
+    all_goes : AllGo c now.feeds.items done s.gone (all_of c files) whole_rest
+    all_goes = go_so p s (λ i. true) files whole_can
 
     -- the frames that were made are the first of all
-    all_splits : Splits c k p s.past s.made (all_of c files) (λ i. rest_at i (slice_get now.feeds.items i) refl)
-    all_splits = s.splits (all_of c files) (λ i. rest_at i (slice_get now.feeds.items i) refl) all_goes
+    all_splits : Splits c k p s.past s.made (all_of c files) whole_rest
+    all_splits = s.splits (all_of c files) whole_rest all_goes
 
     made_front : (more : List Made) × (made_of_all c k files ≡ s.made ++ more)
     made_front = by p s.made s.past all_splits
       where
         by : (p : Place) (made : List Made) (past : List Numbered)
-            → Splits c k p past made (all_of c files) (λ i. rest_at i (slice_get now.feeds.items i) refl)
+            → Splits c k p past made (all_of c files) whole_rest
             → (more : List Made) × (made_of_all c k files ≡ made ++ more)
         by Looks made past h = (_, h)
         by (Passes number silent) made past h = (_, h)
@@ -248,9 +231,9 @@ module _ (reads : UnitReads) (c : Config) (k : ℕ) (now : MendMachine) (files :
     -- how far each was read
     fed_at : (i : ℕ) → i < k → option_map_or fed_of (slice_get now.feeds.items i) 0 ≤ taken i
     fed_at i l =
-        let f = feed_in i l in
-        subst (λ (o : Option Feed). option_map_or fed_of o 0 ≤ taken i) (sym f.1)
-        (fed_most f.0 (fed i done) (s.gone i) (s.come.each i f.0 f.1).stands)
+        let count = s.come.count in
+        let f = get_at now.feeds.items i (omega (arith, l, count)) in
+        rw f.1 (fed_most f.0 (fed i done) (s.gone i) (s.come.each i f.0 f.1).stands)
 
     -- what held all up, and how much went out
     module _ (d : HasDue c k now.feeds.items done s.gone) where
@@ -277,9 +260,7 @@ module _ (reads : UnitReads) (c : Config) (k : ℕ) (now : MendMachine) (files :
 
       due_since : IsPrefix (complete_by c k files d.input (length d.known)) (gave done)
       due_since =
-          subst (λ (m : List Made). IsPrefix (joined (complete_units c.pid (packets_of c m))) (gave done))
-          (sym (made_by c k files d.input d.known due_front ∙ d.is (all_of c files) _ all_goes))
-          d.went
+          rw (made_by c k files d.input d.known due_front ∙ d.is (all_of c files) _ all_goes) d.went
 
   front_at : (i : ℕ) → i < k → take (taken i) (files i) ≡ fed i done
   front_at i l =
@@ -303,36 +284,19 @@ module _ (reads : UnitReads) (c : Config) (k : ℕ) (now : MendMachine) (files :
   }
 
   module _ (s : ShownAt c k done now Looks) (w : ℕ) (first : first_waiting now.feeds.items ≡ Some w) where
-    known_way : (i : ℕ) (f : Feed) → slice_get now.feeds.items i ≡ Some f
-        → Way c f (fed i done) (s.gone i) (ended i) (fed i done)
-    known_way i f is =
-        let h = s.come.each i f is in
-        subst (λ (b : Bool). Way c f (fed i done) (s.gone i) b (fed i done)) h.end
-        (let can = some_way (has_ended f) c.pid (fed i done) in
-        way_on c f (fed i done) (ended i) (s.gone i) h (has_ended f) (fed i done) can.later can.can)
-
-    abbrev known_rest : (i : ℕ) (o : Option Feed) → slice_get now.feeds.items i ≡ o → Coming
-    known_rest i None e = coming [] true
-    known_rest i (Some f) e = (known_way i f e).rest
-
-    known_goes : (i : ℕ) (f : Feed) → slice_get now.feeds.items i ≡ Some f
-        → (o : Option Feed) (e : slice_get now.feeds.items i ≡ o)
-        → Goes c f (fed i done) (s.gone i) (coming (feed_events (rules c) (ended i) (fed i done)) (ended i))
-        (known_rest i o e)
-    known_goes i f is None e = none_some f (sym e ∙ is)
-    known_goes i f is (Some g) e =
-        subst (λ (z : Feed). Goes c z (fed i done) (s.gone i) (coming (feed_events (rules c) (ended i) (fed i done))
-        (ended i))
-        (known_rest i (Some g) e)) (same_Some g f (sym e ∙ is)) (known_way i g e).goes
+    known_can : (i : ℕ) (f : Feed) → slice_get now.feeds.items i ≡ Some f
+        → CanGo (has_ended f) c.pid (fed i done) (ended i) (fed i done)
+    known_can i f is = subst (λ (b : Bool). CanGo (has_ended f) c.pid (fed i done) b (fed i done))
+        (s.come.each i f is).end (some_way (has_ended f) c.pid (fed i done))
 
     abbrev xs : ℕ → Coming
     xs = λ i. coming (feed_events (rules c) (ended i) (fed i done)) (ended i)
 
     abbrev ys : ℕ → Coming
-    ys = λ i. known_rest i (slice_get now.feeds.items i) refl
+    ys = rest Looks s ended (λ i. fed i done) known_can
 
     known_all : AllGo c now.feeds.items done s.gone xs ys
-    known_all i f is = known_goes i f is (slice_get now.feeds.items i) refl
+    known_all = go_so Looks s ended (λ i. fed i done) known_can
 
     waits : IsFirst now.feeds.items w
     waits = first_some now.feeds.items w first
@@ -350,12 +314,13 @@ module _ (reads : UnitReads) (c : Config) (k : ℕ) (now : MendMachine) (files :
     going : ended w ≡ false
     going = sym (s.come.each w feed_w.0 feed_w.1).end ∙ (feed_w.0.settled unknown_w).2
 
+    xs_w : xs w ≡ coming (feed_events (rules c) false (fed w done)) false
+    xs_w = ap (λ (b : Bool). coming (feed_events (rules c) b (fed w done)) b) going
+
     nothing_w : (ys w).events ≡ []
     nothing_w =
         nothing_next c feed_w.0 (fed w done) (ended w) (s.gone w) (s.come.each w feed_w.0 feed_w.1) unknown_w (ys w)
-        (subst (λ (b : Bool). Goes c feed_w.0 (fed w done) (s.gone w) (coming (feed_events (rules c) b (fed w done)) b)
-        (ys w)) going
-        (known_all w feed_w.0 feed_w.1))
+        (rw xs_w at (known_all w feed_w.0 feed_w.1))
 
     over_w : (ys w).over ≡ false
     over_w = (known_all w feed_w.0 feed_w.1).over ∙ going
@@ -387,10 +352,7 @@ module _ (reads : UnitReads) (c : Config) (k : ℕ) (now : MendMachine) (files :
     but = known_by c w (fed w done) (all_of c files)
 
     abbrev zs : ℕ → Coming
-    zs = λ i. cond (i == w) (ys i) (rest_at Looks s i (slice_get now.feeds.items i) refl)
-
-    xs_w : xs w ≡ coming (feed_events (rules c) false (fed w done)) false
-    xs_w = ap (λ (b : Bool). coming (feed_events (rules c) b (fed w done)) b) going
+    zs = λ i. cond (i == w) (ys i) (whole_rest Looks s i)
 
     but_goes : AllGo c now.feeds.items done s.gone but zs
     but_goes i f is = by (i == w) refl
@@ -398,14 +360,13 @@ module _ (reads : UnitReads) (c : Config) (k : ℕ) (now : MendMachine) (files :
         by : (b : Bool) → (i == w) ≡ b
             → Goes c f (fed i done) (s.gone i)
             (cond b (coming (feed_events (rules c) false (fed w done)) false) (all_of c files i))
-            (cond b (ys i) (rest_at Looks s i (slice_get now.feeds.items i) refl))
-        by true e = subst (λ (x : Coming). Goes c f (fed i done) (s.gone i) x (ys i)) (ap xs (eqb-true i w e) ∙ xs_w)
-            (known_all i f is)
+            (cond b (ys i) (whole_rest Looks s i))
+        by true e = rw (ap xs (eqb-true i w e) ∙ xs_w) at (known_all i f is)
         by false e = all_goes Looks s i f is
 
     -- of the feed that waits nothing more is known than before
     zs_w : zs w ≡ ys w
-    zs_w = ap (λ (b : Bool). cond b (ys w) (rest_at Looks s w (slice_get now.feeds.items w) refl)) (eq-eqb w w refl)
+    zs_w = ap (λ (b : Bool). cond b (ys w) (whole_rest Looks s w)) (eq-eqb w w refl)
 
     -- so no other frame is made, whatever the others have
     made_but : mended c k but ≡ s.made
@@ -473,90 +434,64 @@ module _ (reads : UnitReads) (c : Config) (k : ℕ) (now : MendMachine) (files :
         (map-append (frame_of c) made more) ∙ p.1,
   )
 
-  gave_front : (p : Place) → ShownAt c k done now p → place_of now.phase ≡ p → Front
-  gave_front Looks s at =
+  gave_front : (p : Phase) → now.phase ≡ p → ShownAt c k done now (place_of p) → Front
+  gave_front phase.Looks at s =
       let m = made_front Looks s in
-      let open_yet = (now.looks (looks_at now.phase at)).1 in
       as_front s.made m.0 m.1
       (sent_front c now.sender s.is_at.content (frames_of c s.made) (frames_of c m.0) (gave done) s.is_at.stands
-      now.sender.«open»
-      (λ on. absurd (true≢false (sym on ∙ open_yet))))
-  gave_front (Passes number silent) s at = absurd (not_passes now.phase number silent at)
-  gave_front (Sends n from) s at =
+      now.sender.«open» (λ on. absurd (true≢false (sym on ∙ (now.looks at).1))))
+  gave_front (phase.Sends n from) at s =
       let m = made_front (Sends n from) s in
       as_front s.made m.0 m.1
       (sent_front c now.sender (lent_content from now.mender now.feeds.items) (frames_of c s.made) (frames_of c m.0)
-      (gave done)
-      s.is_at.stands now.sender.«open» (λ on. absurd (now.busy n from (sends_at now.phase n from at)
-      (now.sender.«open» on))))
-  gave_front Rests s at =
+      (gave done) s.is_at.stands now.sender.«open» (λ on. absurd (now.busy n from at (now.sender.«open» on))))
+  gave_front phase.Rests at s =
       as_front s.made [] (all_splits Rests s ∙ sym (append-nil s.made))
       (sent_front c now.sender s.is_at.content (frames_of c s.made) [] (gave done) s.is_at.stands now.sender.«open»
       (λ on. refl))
-  gave_front Done s at =
+  gave_front phase.Done at s =
       as_front s.made [] (all_splits Done s ∙ sym (append-nil s.made)) (sent_all c (frames_of c s.made)
       [] (gave done) refl s.is_at.1)
 
--- ---- the work
+  -- ---- the work
 
-done_at : (p : Phase) (feeds : List Feed) → step_in p feeds ≡ End → p ≡ phase.Done
-done_at phase.Looks feeds e = absurd (no_end (first_waiting feeds) e)
-  where
-    no_end : (o : Option ℕ) → wants o ≡ End → ⊥
-    no_end None e = let z : Give ≡ End = e in cc
-    no_end (Some w) e = let z : Read w SIZE read_ahead ≡ End = e in cc
-done_at (phase.Sends n from) feeds e = absurd (let z : Give ≡ End = e in cc)
-done_at phase.Rests feeds e = absurd (let z : Give ≡ End = e in cc)
-done_at phase.Done feeds e = refl
-
-module _ (reads : UnitReads) (start now : MendMachine) (files : ℕ → List ℕ) (places : List ℕ) (done : List Event)
-    (all : length places ≡ length start.feeds.items) (are : AreFed (length start.feeds.items) files places done)
-    (s : Becomes start done now) where
-  abbrev c : Config
-  c = start.plan.now
-
-  abbrev k : ℕ
-  k = length start.feeds.items
-
-  ends_in : step_of now ≡ End → IsRightAtEnd (mend_work c k) files places (gave done) (ending_of now)
-  ends_in end =
+  ends_in : Shown c k done now → step_of now ≡ End
+      → IsRightAtEnd (mend_work c k) files places (gave done) (ending_of now)
+  ends_in s end =
       let d : ShownAt c k done now Done = at_place c k done now phase.Done (done_at now.phase now.feeds.items end) s in
-      let pid : c.pid < 2 ^ 13 = subst (λ (x : Config). x.pid < 2 ^ 13) d.plan now.pid in
-      let read = whole reads c k now files places done all are d in
+      let pid : c.pid < 2 ^ 13 = rw d.plan at now.pid in
+      let read = whole d in
       bool_cases (now.tally.frames == 0)
-      (λ none. rw none (read, has_none reads c k now files places done all are d none))
-      (λ some. rw some (read, mends_all reads c k now files places done all are d pid some))
+      (λ none. rw none (read, has_none d none))
+      (λ some. rw some (read, mends_all d pid some))
 
-  too_long : AreWithin k places (reach_of now) → (input : ℕ) → input < k → slice_index places input ≡ longest_file
-      → Needs (step_of now) input (slice_index places input - length (fed input done))
-      → mend_work c k files (Err (Files (TooLong input))) places (gave done)
-  too_long within input lt most wanted =
-      let w = asked Needs (λ i n h. h) (λ i n h. h) now.phase now.feeds.items input _ wanted in
-      let d : ShownAt c k done now Looks = at_place c k done now phase.Looks w.looks s in
-      let few = w.asks.1 in
+  unread : Shown c k done now → AreWithin k places (reach_of now) → (input : ℕ)
+      → FallsShort (step_of now) input (slice_index places input - length (fed input done))
+      → HasRead c k input files places (gave done)
+  unread s within input wanted =
+      let w = short now input _ wanted in
+      let few = w.1 in
+      let d : ShownAt c k done now Looks = at_place c k done now phase.Looks w.0.looks s in
       record {
-        written = written reads c k now files places done all are d w.feed w.first within;
-        going = subst (λ (i : ℕ). events.has_ended i done ≡ false) w.asks.0
-            (going reads c k now files places done all are d w.feed w.first);
-        near = omega (arith, few, most);
-        waits = subst (λ (i : ℕ). gave done ≡ complete_by c k files i (length (fed i done))) w.asks.0
-            (waits_out reads c k now files places done all are d w.feed w.first);
+        written = written d input w.0.first within;
+        going = going d input w.0.first;
+        near = omega (arith, few);
+        waits = waits_out d input w.0.first;
       }
 
-  unread : AreWithin k places (reach_of now) → (input : ℕ) → input < k
-      → FallsShort (step_of now) input (slice_index places input - length (fed input done))
-      → mend_work c k files (Err (Files (ReadFault input))) places (gave done)
-  unread within input lt wanted =
-      let w = asked FallsShort (λ i n h. h) (λ i n h. h) now.phase now.feeds.items input _ wanted in
-      let d : ShownAt c k done now Looks = at_place c k done now phase.Looks w.looks s in
-      let few = w.asks.1 in
+  too_long : Shown c k done now → AreWithin k places (reach_of now) → (input : ℕ)
+      → slice_index places input ≡ longest_file
+      → Needs (step_of now) input (slice_index places input - length (fed input done))
+      → HasNearly c k input files places (gave done)
+  too_long s within input most wanted =
+      let w = needs now input _ wanted in
+      let few = w.1 in
+      let d : ShownAt c k done now Looks = at_place c k done now phase.Looks w.0.looks s in
       record {
-        written = written reads c k now files places done all are d w.feed w.first within;
-        going = subst (λ (i : ℕ). events.has_ended i done ≡ false) w.asks.0
-            (going reads c k now files places done all are d w.feed w.first);
-        near = omega (arith, few);
-        waits = subst (λ (i : ℕ). gave done ≡ complete_by c k files i (length (fed i done))) w.asks.0
-            (waits_out reads c k now files places done all are d w.feed w.first);
+        written = written d input w.0.first within;
+        going = going d input w.0.first;
+        near = omega (arith, few, most);
+        waits = waits_out d input w.0.first;
       }
 
 unwritten : UnitReads → (start now : MendMachine) (files : ℕ → List ℕ) (places : List ℕ) (done : List Event)
@@ -568,7 +503,7 @@ unwritten reads start now files places done bytes all are g =
     let c = start.plan.now in
     let k = length start.feeds.items in
     let p = gave_front reads c k now files places (done ++ g.late) all (fed_since k files places done g.late g.only are)
-    (place_of now.phase) g.came_late refl in
+    now.phase refl g.came_late in
     let begins = p.1 ∙ ap (λ (l : List ℕ). l ++ p.0) g.parts in
     let m = g.mid in
     let d = g.came.due (some_inputs c k files bytes g.more p.0 begins g.some) in
@@ -592,10 +527,11 @@ unwritten reads start now files places done bytes all are g =
 pub mend_does : UnitReads → (start : MendMachine) → DoesWork (mend_work start.plan.now (length start.feeds.items))
     (length start.feeds.items) reach_of step_of (Becomes start) ending_of
 mend_does reads start = record {
-  ends = λ files places done now all are within came end. ends_in reads start now files places done all are came end;
+  ends = λ files places done now all are within came end. ends_in reads start.plan.now _ now files places done all are
+      came end;
   too_long = λ files places done now input all are within came lt most wanted.
-      too_long reads start now files places done all are came within input lt most wanted;
+      too_long reads start.plan.now _ now files places done all are came within input most wanted;
   unread = λ files places done now input all are within came lt wanted.
-      unread reads start now files places done all are came within input lt wanted;
+      unread reads start.plan.now _ now files places done all are came within input wanted;
   unwritten = λ files places done now bytes all are g. unwritten reads start now files places done bytes all are g;
 }

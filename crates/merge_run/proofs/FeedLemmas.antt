@@ -59,7 +59,7 @@ took_by : (held : Bool) (at : Bool) (c : Config) (f g : FrameFeed) (bytes : List
     → IsFedWith c f bytes ended given
     → TookFor held at c f g bytes ended given
 took_by false at c f g bytes ended given there config stays takes h =
-    let t = subst (λ (b : Bool). Takes b f g bytes ended given) (both_on at) takes in
+    let t = rw (both_on at) at takes in
     record { records = t.records; are = t.are; stands = record { network = config ∙ h.network; stands = t.stands } }
 took_by true at c f g bytes ended given there config stays takes h =
     let d = due_of c f bytes ended given h in
@@ -73,8 +73,7 @@ took_by true at c f g bytes ended given there config stays takes h =
     first (Some w) waits some [] all is = absurd (subst (λ (o : Option Waiting). IsFirst o []) waits is)
     first (Some w) waits some (x ∷ later) all is =
         let one : IsFirst (waiting_of f) (x ∷ []) =
-        subst (λ (o : Option Waiting). IsFirst o (x ∷ [])) (sym waits)
-        (subst (λ (o : Option Waiting). IsFirst o (x ∷ later)) waits is) in
+        rw waits (subst (λ (o : Option Waiting). IsFirst o (x ∷ later)) waits is) in
         let only : IsOnly (waiting_of f) (x ∷ []) = record { one = x; only = refl; first = one } in
         let was : IsHeld c f bytes ended (given ++ x ∷ []) = record {
           before = given;
@@ -87,7 +86,7 @@ took_by true at c f g bytes ended given there config stays takes h =
         } in
         record {
           records = x ∷ [];
-          are = subst (λ (b : Bool). AreTaken b (waiting_of f) (x ∷ [])) (sym (there refl).0) only;
+          are = rw (there refl).0 only;
           stands = subst (λ (k : FrameFeed). IsHeld c k bytes ended (given ++ x ∷ [])) (sym (stays (both_off at))) was;
         }
 

@@ -39,7 +39,7 @@ use Rattle.feed_merge.proofs.StepLemmas.{Wants, IsLate}
 use Rattle.feed_merge.proofs.FrontLemmas.{packets_more, given_front}
 use Rattle.merge_run.proofs.SendLemmas.{frames_append, gave_complete, gave_all}
 use Rattle.merge_run.proofs.SplitLemmas.{picks_front, below_split, picks_split, picks_nothing}
-use Rattle.merge_run.proofs.ShownLemmas.{reading}
+use Rattle.merge_run.proofs.ShownLemmas.{both_in, is_at}
 use Rattle.terms.specs.Lists.{IsPrefix}
 use Rattle.feed_merge.proofs.GrowLemmas.{all_below}
 use Rattle.t2mi_stream.proofs.CompleteLemmas.{shorter_front}
@@ -82,7 +82,7 @@ module _ (front : DueFront) (follow : DueFollow) (law : CompleteLaw) (c : Config
   complete_below : (n : ℕ) → m.next ≤ n → IsBehind n m.a ga → IsBehind n m.b gb → m.phase ≡ phase.Reads
       → AreCompleteBelow c files n (gave events)
   complete_below n le x y reads =
-      let i : IsReading c m.merger frames m.ran.units = subst (IsIn c m frames) reads s.is_in in
+      let i : IsReading c m.merger frames m.ran.units = is_at c m events s phase.Reads reads in
       gave_complete law c m.merger _ frames m.ran.units (gave events) i.is_open i.complete s.sends
       ∙ ap (λ (ps : List Picked). joined (complete_units c.pid (packets_of c ps))) (sym (picked_is n le
       (subst (λ (p : Phase). IsPast (is_held p m.source A) n m.a ga) (sym reads) x)
@@ -91,7 +91,7 @@ module _ (front : DueFront) (follow : DueFollow) (law : CompleteLaw) (c : Config
   -- ---- all was given
 
   none_in : m.phase ≡ phase.Done → IsDone c frames m.ran.units m.a m.b
-  none_in done = subst (IsIn c m frames) done s.is_in
+  none_in = is_at c m events s phase.Done
 
   all_is : NoneComes m.a → NoneComes m.b → (records_of c (files 0) ≡ ga) × (records_of c (files 1) ≡ gb)
   all_is none_a none_b = (
@@ -140,7 +140,7 @@ module _ (front : DueFront) (follow : DueFollow) (law : CompleteLaw) (c : Config
       (feed.has_ended m.b)
       → HasLate c files (gave events)
   has_late reads l =
-      let r = reading c m events s reads in
+      let r = both_in c m events s phase.Reads reads in
       record {
         late = late_is front follow c events m.next m.a m.b ga gb r files places are l;
         is = complete_below MOST_FRAMES s.both.early (late_a front follow c events m.next m.a m.b ga
@@ -155,7 +155,8 @@ module _ (front : DueFront) (follow : DueFollow) (law : CompleteLaw) (c : Config
   has_written input taken reads same = record {
     early = (let e = s.both.early in omega (arith, same, e));
     is = subst (λ (n : ℕ). AreCompleteBelow c files n (gave events)) (sym same)
-        (let r = reading c m events s reads in complete_below m.next (omega arith) r.behind_a r.behind_b reads);
+        (let r = both_in c m events s phase.Reads reads in
+        complete_below m.next (omega arith) r.behind_a r.behind_b reads);
   }
 
   -- ---- some were given
@@ -280,7 +281,7 @@ module _ (front : DueFront) (follow : DueFollow) (law : CompleteLaw) (c : Config
       → HasRead c input taken files places (gave events)
   has_read input taken wants reads is near =
       let same = ap (end_by c (files input)) is
-      ∙ ends_next front follow c events m.next m.a m.b ga gb (reading c m events s reads) files places
+      ∙ ends_next front follow c events m.next m.a m.b ga gb (both_in c m events s phase.Reads reads) files places
       are input wants in
       record {
         written = has_written input taken reads same;

@@ -12,7 +12,6 @@ use Rattle.feed_merge.specs.Laws.{AreOf}
 use Rattle.feed_merge.specs.Picks.{Picked, picks, above_all, frames_of}
 use Rattle.feed_merge.proofs.GrowLemmas.{all_below}
 use Rattle.merge_run.specs.Shown.{IsLive}
-use Rattle.feed_merge.specs.Both.{IsDueBelow}
 use Rattle.feed_merge.specs.Fed.{IsFedWith}
 use Rattle.feed_merge.proofs.BothLemmas.{due_below}
 use Rattle.feed_merge.proofs.NumberLemmas.{AllFrom, below_of}
@@ -61,24 +60,18 @@ live_taken c f g fed_a fed_b ended_a ended_b ga gb xs ys low n next count x y is
           (sym (picks_split c ga xs gb ys low a b (from_of n low xs le p) (from_of n low ys le q))) all;
     }
 
--- the same was fed, and no fewer units were given
-pub live_same : (c : Config) (a b x y : List ℕ) (ga gb : List FrameRecord) (next count more : ℕ) → a ≡ x
-    → b ≡ y → count ≤ more
-    → IsLive c a b ga gb next count → IsLive c x y ga gb next more
-live_same c a b x y ga gb next count more p q le l =
-    let most = l.done in
-    record {
-      low = l.low;
-      within = l.within;
-      due_a = subst (IsDueBelow c l.low) p l.due_a;
-      due_b = subst (IsDueBelow c l.low) q l.due_b;
-      done = omega (arith, most, le);
-    }
-
+-- bytes were given, and no fewer units than before
 pub live_given : EventsTell → (c : Config) (events : List Event) (piece : List ℕ) (ga gb : List FrameRecord)
     (next count more : ℕ)
     → count ≤ more → IsLive c (fed 0 events) (fed 1 events) ga gb next count
     → IsLive c (fed 0 (events ++ Gave piece ∷ [])) (fed 1 (events ++ Gave piece ∷ [])) ga gb next more
 live_given tell c events piece ga gb next count more le l =
     let t = tell.given piece events in
-    live_same c _ _ _ _ ga gb next count more (sym (t.fed 0)) (sym (t.fed 1)) le l
+    let most = l.done in
+    record {
+      low = l.low;
+      within = l.within;
+      due_a = rw (t.fed 0) l.due_a;
+      due_b = rw (t.fed 1) l.due_b;
+      done = omega (arith, most, le);
+    }

@@ -103,14 +103,7 @@ module _ (c : Config) (n : ℕ) (v w : Option Waiting) (xs ys : List FrameRecord
           → PickIs c n A xs (pick_of c xs ys n)
       go true t on e =
           let p = there c A n v xs a on in
-          record {
-            one = p.one;
-            only = p.only;
-            number = p.number;
-            group = p.group;
-            whole = p.whole;
-            is = ap (λ (o : Option Picked). option_or o (frame_from c B n ys)) p.is;
-          }
+          subst (PickIs c n A xs) (p.is ∙ sym (ap (λ (o : Option Picked). option_or o (frame_from c B n ys)) p.is)) p
       go false true off e = absurd (let z : Some B ≡ Some A = e in cc)
       go false false off e = none_some A e
 
@@ -122,15 +115,9 @@ module _ (c : Config) (n : ℕ) (v w : Option Waiting) (xs ys : List FrameRecord
           → PickIs c n B ys (pick_of c xs ys n)
       go true t on so e = absurd (let z : Some A ≡ Some B = e in cc)
       go false true off so e =
-          let p = there c B n w ys b so in
-          record {
-            one = p.one;
-            only = p.only;
-            number = p.number;
-            group = p.group;
-            whole = p.whole;
-            is = ap (λ (o : Option Picked). option_or o (frame_from c B n ys)) (not_there c A n v xs a off) ∙ p.is;
-          }
+          subst (PickIs c n B ys)
+          (sym (ap (λ (o : Option Picked). option_or o (frame_from c B n ys)) (not_there c A n v xs a off)))
+          (there c B n w ys b so)
       go false false off so e = none_some B e
 
   pub pick_none : source_at n (seen_of v) (seen_of w) ≡ None → pick_of c xs ys n ≡ None

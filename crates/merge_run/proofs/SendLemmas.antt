@@ -1,5 +1,5 @@
 -- What the merger sends of the frames that are picked.
-use Rattle.std.proofs.Common.{◌≡◌, ◌≢◌, ℕ, ◌+◌, ◌≤◌, true, false, List, [], ◌∷◌, ◌++◌, length, drop}
+use Rattle.std.proofs.Common.{◌≡◌, ◌≢◌, ℕ, ◌+◌, ◌≤◌, Bool, true, false, List, [], ◌∷◌, ◌++◌, length, drop}
 use Rattle.std.proofs.Common.{refl, ap, sym, subst, ◌∙◌, arith, append-nil, append_assoc, length-append}
 use Rattle.std.specs.List.{filter}
 use Rattle.std.proofs.lemmas.Bool.{true≢false}
@@ -149,44 +149,19 @@ pub counted_push : (ps : List Picked) (p : Picked) (units : ℕ) → counted (ps
     (counted ps units) p.feed
 counted_push ps p units = go p.feed refl
   where
-    frames : length (ps ++ p ∷ []) ≡ length ps + 1
-    frames = length-append ps (p ∷ [])
-
-    first : length (filter from_first (ps ++ p ∷ [])) ≡ length (filter from_first ps) + length
-        (filter from_first (p ∷ []))
-    first = ap length (filter-append from_first ps (p ∷ [])) ∙ length-append (filter from_first ps)
-        (filter from_first (p ∷ []))
-
-    second : length (filter from_second (ps ++ p ∷ [])) ≡ length (filter from_second ps) + length
-        (filter from_second (p ∷ []))
-    second = ap length (filter-append from_second ps (p ∷ [])) ∙ length-append (filter from_second ps)
-        (filter from_second (p ∷ []))
+    -- so many more are of a feed
+    more : (test : Picked → Bool) (n : ℕ) → length (filter test (p ∷ [])) ≡ n
+        → length (filter test (ps ++ p ∷ [])) ≡ length (filter test ps) + n
+    more test n is =
+        simp (filter-append, length-append) (ap (λ (k : ℕ). length (filter test ps) + k) is)
 
     made : (a b c d e f : ℕ) → a ≡ d → b ≡ e → c ≡ f
         → record { frames = a; a = b; b = c; units = units } ≡ (let r : MergeRan =
         record { frames = d; a = e; b = f; units = units } in r)
     made a b c d e f p q r = rw (p, q, r) refl
 
-    one_first : (p : Picked) → p.feed ≡ A → length (filter from_first (p ∷ [])) ≡ 1
-    one_first p is = rw is refl
-
-    none_second : (p : Picked) → p.feed ≡ A → length (filter from_second (p ∷ [])) ≡ 0
-    none_second p is = rw is refl
-
-    none_first : (p : Picked) → p.feed ≡ B → length (filter from_first (p ∷ [])) ≡ 0
-    none_first p is = rw is refl
-
-    one_second : (p : Picked) → p.feed ≡ B → length (filter from_second (p ∷ [])) ≡ 1
-    one_second p is = rw is refl
-
     go : (from : Feed) → p.feed ≡ from → counted (ps ++ p ∷ []) units ≡ added (counted ps units) from
-    go A is =
-        let one : length (filter from_first (p ∷ [])) ≡ 1 = one_first p is in
-        let none : length (filter from_second (p ∷ [])) ≡ 0 = none_second p is in
-        made _ _ _ _ _ _ frames (first ∙ ap (λ (k : ℕ). length (filter from_first ps) + k) one)
-        (let e = second in omega (arith, e, none))
-    go B is =
-        let none : length (filter from_first (p ∷ [])) ≡ 0 = none_first p is in
-        let one : length (filter from_second (p ∷ [])) ≡ 1 = one_second p is in
-        made _ _ _ _ _ _ frames (let e = first in omega (arith, e, none))
-        (second ∙ ap (λ (k : ℕ). length (filter from_second ps) + k) one)
+    go A is = made _ _ _ _ _ _ (length-append ps (p ∷ [])) (more from_first 1 (rw is))
+        (let e = more from_second 0 (rw is) in omega (arith, e))
+    go B is = made _ _ _ _ _ _ (length-append ps (p ∷ [])) (let e = more from_first 0 (rw is) in omega (arith, e))
+        (more from_second 1 (rw is))

@@ -1,10 +1,8 @@
 -- What two feeds want next, and a merger.
-use Rattle.std.proofs.Common.{◌≡◌, ℕ, refl, ap, sym, ◌∙◌}
+use Rattle.std.proofs.Common.{◌≡◌, ℕ, refl}
 use Rattle.file_run.specs.declared.machine.Step.{Step}
 use Rattle.file_run.specs.declared.machine.Step.TheVariants.{Give, End}
-use Rattle.feed_merge.specs.FeedStandsFor.{waiting_of, has_ended}
 use Rattle.feed_merge.specs.Reading.{step_for}
-use Rattle.feed_merge.proofs.StepLemmas.{GoesOn, goes_on}
 use Rattle.merge_run.specs.Steps.{step_in, step_of}
 use Rattle.merge_run.specs.declared.machine.MergeMachine.{MergeMachine}
 use Rattle.merge_run.specs.declared.phase.Phase.{Phase}
@@ -18,10 +16,6 @@ asked Asks not_give not_end Reads step input count h = (refl, h)
 asked Asks not_give not_end Gives step input count h = absurd (not_give input count h)
 asked Asks not_give not_end Rests step input count h = absurd (not_give input count h)
 asked Asks not_give not_end Done step input count h = absurd (not_end input count h)
-
-pub goes_on_at : (m : MergeMachine) → m.phase ≡ Reads → step_of m ≡ Give
-    → GoesOn (waiting_of m.a) (has_ended m.a) (waiting_of m.b) (has_ended m.b)
-goes_on_at m reads h = goes_on _ _ _ _ (sym (ap (λ (p : Phase). step_in p (step_for m.a m.b)) reads) ∙ h)
 
 -- and if it does not read, and gives no unit of a frame, it gives the rest
 pub rests_at : (m : MergeMachine) → step_of m ≡ Give → (m.phase ≡ Reads → ⊥) → (m.phase ≡ Gives → ⊥) → m.phase ≡ Rests

@@ -1,5 +1,5 @@
 -- Which records are left behind.
-use Rattle.std.proofs.Common.{◌≡◌, ◌<◌, ◌&&◌, Bool, true, false, Option, Some, None, is_some, refl, sym}
+use Rattle.std.proofs.Common.{◌≡◌, ◌<◌, Bool, true, false, Option, Some, None, is_some, refl, sym}
 use Rattle.std.proofs.lemmas.Bool.{true≢false}
 use Rattle.plp_config.specs.declared.moment.TheConstants.{MOST_FRAMES}
 use Rattle.frame_groups.specs.declared.waiting.Waiting.{Waiting}
@@ -7,12 +7,6 @@ use Rattle.feed_merge.specs.declared.seen.Feed.{Feed}
 use Rattle.feed_merge.specs.Skips.{CanBeLeft}
 use Rattle.feed_merge.specs.FeedStandsFor.{is_whole}
 use Rattle.feed_merge.proofs.BothCameLemmas.{less_of, nothing_of}
-
--- if fewer are left behind
-pub can_less : (b t : Bool) (o : Option Waiting) → CanBeLeft b o → CanBeLeft (b && t) o
-can_less false t o can = can
-can_less true true o can = can
-can_less true false o can = tt
 
 -- if a frame waits, of a number that one may have
 pub can_whole : {A : Type 0} (b : Bool) (o : Option Waiting) → ∥ A ∥₁ → (A → b ≡ true → is_whole o ≡ true)

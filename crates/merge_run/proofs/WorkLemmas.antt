@@ -8,7 +8,6 @@ use Rattle.plp_config.specs.declared.moment.TheConstants.{MOST_FRAMES}
 use Rattle.file_run.specs.Reading.{longest_file}
 use Rattle.modulator.specs.Laws.{DueFront, DueFollow}
 use Rattle.t2mi_stream.specs.CompleteLaws.{CompleteLaw}
-use Rattle.feed_merge.specs.Picks.{picks, frames_of}
 use Rattle.file_run.specs.Events.{Event, fed, gave}
 use Rattle.file_run.specs.FileRun.{AreFed}
 use Rattle.file_run.specs.Steps.{Needs, FallsShort}
@@ -19,7 +18,7 @@ use Rattle.file_run.specs.declared.stop.RunStop.TheVariants.{Files}
 use Rattle.file_run.proofs.StandsLemmas.{fed_since}
 use Rattle.merge_run.specs.AsMachine.{Becomes, ending_in, ending_of}
 use Rattle.merge_run.specs.MergeRun.{MayWrite, HasSome, merge_work}
-use Rattle.merge_run.specs.Shown.{Shown, IsDone, IsIn, is_held}
+use Rattle.merge_run.specs.Shown.{Shown, IsDone, is_held}
 use Rattle.feed_merge.specs.declared.seen.Feed.TheVariants.{A, B}
 use Rattle.feed_merge.specs.Reading.{step_for}
 use Rattle.merge_run.specs.Steps.{step_in, step_of, reach_of}
@@ -29,6 +28,7 @@ use Rattle.merge_run.specs.declared.phase.Phase.TheVariants as phase
 use Rattle.feed_merge.proofs.BothLemmas.{whole_all}
 use Rattle.feed_merge.proofs.StepLemmas.{is_late, needs_by, short_by}
 use Rattle.feed_merge.proofs.WantLemmas.{fed_count}
+use Rattle.merge_run.proofs.ShownLemmas.{frames, is_at}
 use Rattle.merge_run.proofs.StepLemmas.{asked}
 use Rattle.merge_run.proofs.FilesLemmas.{merges_all, has_none, has_late, has_read, ahead, gave_front, since}
 
@@ -40,8 +40,7 @@ module _ (front : DueFront) (follow : DueFollow) (law : CompleteLaw) (start now 
 
   whole : now.phase ≡ phase.Done → AreWhole files places
   whole done =
-      let i : IsDone k (frames_of (picks k s.given_a s.given_b)) now.ran.units now.a now.b =
-      subst (IsIn k now (frames_of (picks k s.given_a s.given_b))) done s.is_in in
+      let i : IsDone k (frames k now events s) now.ran.units now.a now.b = is_at k now events s phase.Done done in
       whole_all front follow k events (is_held now.phase now.source A) (is_held now.phase now.source B)
       now.next now.a now.b s.given_a
       s.given_b s.both files places are i.none_a i.none_b all

@@ -75,7 +75,6 @@ use Rattle.frame_groups.specs.Laws.{NextIsFound}
 use Rattle.stream_laws.specs.SentPackets.{packets_of}
 use Rattle.stream_laws.specs.SentFrames.{sent_from}
 use Rattle.stream_laws.proofs.SentLemmas.{Earlier}
-use Rattle.site_frame.specs.declared.reading.RecordView.{RecordView}
 use Rattle.spaced_frames.specs.Spaced.{SentFrame, first_frame, spacers_between, spaced}
 use Rattle.mended_frames.specs.Laws.{PassBehind, MadePass, MadeRise}
 use Rattle.network_laws.specs.MendedRun.{made_record, muted_record, muted_between, records_behind, mended_records}
@@ -492,9 +491,6 @@ module _ (laws : MendLaws) (c : Config) (plan : IsPlan c) where
 
   some_frames : 0 < c.frames
   some_frames = let r : (2 ≤ c.frames) × (c.frames ≤ 255) = plan.rules SuperframeLength in omega arith
-
-  abbrev view_as : ℕ → RecordView → NumberedView
-  view_as n v = record { number = n; view = v }
 
   -- what comes of rows behind a group with a number
   abbrev came : Numbered → List Numbered → ℕ → List SentFrame → List NumberedView

@@ -50,6 +50,7 @@ use Rattle.stream_laws.specs.FrameLaws.{FramesAreStream}
 use Rattle.stream_laws.specs.SentFrames.{sent_frames, run_length}
 use Rattle.stream_laws.proofs.CarriedLemmas.{HasFrame}
 use Rattle.stream_laws.proofs.ByteLemmas.{accepted_are}
+use Rattle.stream_laws.proofs.ArriveLemmas.{all_left}
 use Rattle.t2mi_stream.specs.SurvivorLaws.{AcceptedSurvive, KeptUndamaged}
 use Rattle.network_laws.specs.FeedsOfRun.{run_packets, run_event, run_events}
 use Rattle.std.proofs.Math.Seq.{drop-append_seam}
@@ -167,10 +168,6 @@ no_idle (p ∷ ps) = ap (in_first p) (no_idle ps)
 
 -- ---- the groups are the frames
 
-pub all_came : {X : Type 0} (xs : List X) → items_where_true (replicate (length xs) true) xs ≡ xs
-all_came [] = refl
-all_came {X = X} (x ∷ xs) = ap (λ (l : List X). x ∷ l) (all_came xs)
-
 all_have : (frames from count : ℕ) (sent : List Sent)
     → ((n : ℕ) → from ≤ n → n < from + count → frame_packets n sent ≢ [])
     → filter has_packets (map (frame_group frames sent) (range_with_len from count))
@@ -194,7 +191,7 @@ sent_groups : GroupsAreFrames → LaterNear → (frames count : ℕ) (sent : Lis
     → groups frames (packets_of sent) ≡ map (frame_group frames sent) (range_with_len 0 count)
 sent_groups law near frames count sent some are =
     let all : List Bool = replicate (length sent) true in
-    let same : items_where_true all sent ≡ sent = all_came sent in
+    let same : items_where_true all sent ≡ sent = all_left sent in
     ap (λ (l : List Sent). groups frames (packets_of l)) (sym same)
     ∙ law frames count sent all some are
     (near_apart frames None (items_where_true all sent) some (order_survivors frames None sent all are.order)

@@ -44,9 +44,9 @@ use Rattle.frame_groups.specs.Begun.{packets_at}
 use Rattle.stream_laws.specs.Carrying.{IsWritten}
 use Rattle.stream_laws.specs.DamageLaws.{IsMet}
 use Rattle.stream_laws.specs.Coming.{IsWrittenFrame, RemadeComesBack, RemadeArrives}
+use Rattle.stream_laws.proofs.ArriveLemmas.{all_left}
 use Rattle.network_laws.proofs.MergeLemmas.{first_number, comes}
 use Rattle.common_plp.proofs.PlaceLemmas.{found_passes}
-use Rattle.network_laws.proofs.RunEventLemmas.{all_came}
 
 -- ---- the frames of the records that must come
 
@@ -218,10 +218,10 @@ module _ (are : SentAreFrames) (meet : TestsMeet) (written : WrittenIsFrame) (c 
         before = omega arith;
         begins = mod-eq_of_lt some_frames;
         groups = record {
-          there = λ b le lt. at_past c sent n 0 b le (omega arith) ∙ ap (frame_packets b) (sym (all_came sent));
+          there = λ b le lt. at_past c sent n 0 b le (omega arith) ∙ ap (frame_packets b) (sym (all_left sent));
           none = λ b le. none_past c sent n 0 b (omega arith);
         };
-        some = rw (all_came sent) (frames.some n (omega arith));
+        some = rw (all_left sent) (frames.some n (omega arith));
       } in
       record {
         packets = frame_packets n sent;

@@ -44,6 +44,7 @@ use Rattle.stream_laws.specs.Types.{TypesFit}
 use Rattle.stream_laws.proofs.BegunLemmas.{begun_before, begun_own}
 use Rattle.stream_laws.proofs.CarriedLemmas.{HasFrame}
 use Rattle.stream_laws.proofs.PassLemmas.{own_few, passes}
+use Rattle.stream_laws.proofs.ArriveLemmas.{all_left}
 use Rattle.feed_events.specs.FeedEvents.{FeedEvent, feed_events}
 use Rattle.mended_frames.specs.Picks.{Coming, Picked, waits_by, one_waits, number_next, lesser, least_next, group_next}
 use Rattle.mended_frames.specs.Picks.{groups_next, all_behind, picked_of, pick_next, picked_from, events_in}
@@ -51,7 +52,7 @@ use Rattle.mended_frames.specs.Mended.{Made, passes as test_passes, made_as, mad
 use Rattle.mended_frames.specs.Mended.{taking, mended, frame_of, frames_of, packets_of}
 use Rattle.network_laws.specs.FeedsOfRun.{run_packets, CameOf, IsOfRun, AreOfRun, run_event, run_events, WholeFeedMade}
 use Rattle.network_laws.specs.FeedsOfRun.{WholeStreamMended, run_frame}
-use Rattle.network_laws.proofs.RunEventLemmas.{all_came, run_stream_events}
+use Rattle.network_laws.proofs.RunEventLemmas.{run_stream_events}
 use Rattle.mended_frames.proofs.PickLemmas.{passes_least}
 use Rattle.network_laws.proofs.FeedEventLemmas.{OneOf, one_among, behind_all, least_is, all_groups}
 use Rattle.network_laws.proofs.HonestGroupLemmas.{RunLaws, view_is, whole_has, run_has}
@@ -90,9 +91,6 @@ least_most (suc k) feeds i m l e = ⊎_elim
 module _ (laws : RunLaws) (c : Config) (inputs : ℕ → List (List ℕ)) (plan : IsPlan c) (types : TypesFit c) where
   abbrev count : ℕ
   count = run_length c inputs
-
-  abbrev AllOf : List FeedEvent → Type 0
-  AllOf events = AllByRecursion (IsOfRun c inputs) events
 
   feeds_behind : (number : Option ℕ) (silent : Bool) (k : ℕ) (feeds : ℕ → Coming) → AreOfRun c inputs k feeds
       → AreOfRun c inputs k (all_behind number silent feeds)
@@ -396,7 +394,7 @@ own_events c inputs (suc j) m l = (
     omega arith,
     record {
       flags = replicate (length (run_packets c inputs m)) true;
-      are = sym (all_came (run_packets c inputs m));
+      are = sym (all_left (run_packets c inputs m));
     },
   ),
   own_events c inputs j (m + 1) (omega arith),

@@ -46,13 +46,13 @@ pub same_packets : OnePacket → NoRefusal → PacketLength → (file rest more 
     → Packs file qs more → Stuck rest → Stuck more → (ps ≡ qs) × (rest ≡ more)
 same_packets one none sizes file rest more [] [] h k s t = (refl, sym h ∙ k)
 same_packets one none sizes file rest more [] (q ∷ qs) h k s t =
-    absurd (stuck_begins none sizes rest q s (subst (λ (bytes : List ℕ). Begins bytes q) h k.0))
+    absurd (stuck_begins none sizes rest q s (rw h at k.0))
 same_packets one none sizes file rest more (p ∷ ps) [] h k s t =
-    absurd (stuck_begins none sizes more p t (subst (λ (bytes : List ℕ). Begins bytes p) k h.0))
+    absurd (stuck_begins none sizes more p t (rw k at h.0))
 same_packets one none sizes file rest more (p ∷ ps) (q ∷ qs) h k s t =
     let same = same_front one file p q h.0 k.0 in
     let others = same_packets one none sizes (drop (length p) file) rest more ps qs h.1
-    (subst (λ (r : List ℕ). Packs (drop (length r) file) qs more) (sym same) k.1) s t in
+    (rw same k.1) s t in
     (ap (λ (r : List ℕ). r ∷ ps) same ∙ ap (λ (rs : List (List ℕ)). q ∷ rs) others.0, others.1)
 
 -- With packets behind which none begins, a file begins with no others: with the first of these.
@@ -61,11 +61,11 @@ pub packs_within : OnePacket → NoRefusal → PacketLength → (file rest more 
     → Packs file qs more → Stuck rest → (others : List (List ℕ)) × (ps ≡ qs ++ others)
 packs_within one none sizes file rest more ps [] h k s = (ps, refl)
 packs_within one none sizes file rest more [] (q ∷ qs) h k s =
-    absurd (stuck_begins none sizes rest q s (subst (λ (bytes : List ℕ). Begins bytes q) h k.0))
+    absurd (stuck_begins none sizes rest q s (rw h at k.0))
 packs_within one none sizes file rest more (p ∷ ps) (q ∷ qs) h k s =
     let same = same_front one file p q h.0 k.0 in
     let others = packs_within one none sizes (drop (length p) file) rest more ps qs h.1
-    (subst (λ (r : List ℕ). Packs (drop (length r) file) qs more) (sym same) k.1) s in
+    (rw same k.1) s in
     (others.0, ap (λ (r : List ℕ). r ∷ ps) same ∙ ap (λ (rs : List (List ℕ)). q ∷ rs) others.1)
 
 pub ends_once : OnePacket → NoRefusal → PacketLength → OneRefusal → OneEnd
@@ -97,11 +97,7 @@ record Stops (file : List ℕ) : Type 0 where
   pub stuck : Stuck rest
 
 begins_with : (file : List ℕ) (p : Packet) (len : ℕ) → BeginsWith file p len → Begins file (take len file)
-begins_with file p len b = record {
-  is = (p, b.spells);
-  there = ap (λ (n : ℕ). take n file)
-      (length-take-le len file b.inside);
-}
+begins_with file p len b = record { is = (p, b.spells); there = rw (length-take-le len file b.inside) refl }
 
 one_more : (file packet : List ℕ) → Begins file packet → Stops (drop (length packet) file) → Stops file
 one_more file packet b s = record { packets = packet ∷ s.packets; rest = s.rest; packs = (b, s.packs); stuck = s.stuck }

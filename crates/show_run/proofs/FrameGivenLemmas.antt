@@ -1,15 +1,14 @@
 -- Lines of records are given.
-use Rattle.std.proofs.Common.{◌≡◌, ◌≢◌, ℕ, zero, suc, Bool, List, [], ◌∷◌, ◌++◌, refl, ap, sym, subst, ◌∙◌, inl, inr}
+use Rattle.std.proofs.Common.{◌≡◌, ◌≢◌, ℕ, zero, suc, List, [], ◌∷◌, ◌++◌, refl, ap, sym, ◌∙◌, inl, inr}
 use Rattle.std.proofs.Common.{append-nil}
 use Rattle.file_run.specs.declared.input.TheConstants.{BUFFER}
-use Rattle.file_run.specs.Events.{Event, Gave, fed, has_ended, gave}
+use Rattle.file_run.specs.Events.{Event, Gave, gave}
 use Rattle.file_run.specs.Laws.{EventsTell}
 use Rattle.file_run.specs.declared.machine.Step.TheVariants.{Read, Give, End}
 use Rattle.site_frame.specs.declared.reading.RecordView.{RecordView}
-use Rattle.site_frame.specs.FeedStandsFor.{RecordFeedStandsFor, coming_of}
+use Rattle.site_frame.specs.FeedStandsFor.{coming_of}
 use Rattle.site_frame.specs.declared.coming.Coming.{Coming}
 use Rattle.site_frame.specs.declared.coming.Coming.TheVariants.{Head, Rest, Whole, Refused, NoRoom, Finished}
-use Rattle.site_frame.specs.declared.feed.RecordFeed.{RecordFeed}
 use Rattle.show_run.specs.FrameLines.{next_from, Given, IsNew, Comes}
 use Rattle.show_run.specs.declared.frame_lines.FrameLines.{FrameLines}
 use Rattle.show_run.proofs.FrameLinesLemmas.{lines_next}
@@ -45,12 +44,7 @@ gave_line law start m n events bytes some is none same c =
       shown = record {
         told = g.0;
         next = g.1;
-        feed = subst (λ (l : List RecordView). RecordFeedStandsFor n.feed l (fed 0 now) (has_ended 0 now)) (sym g.2)
-            (subst (λ (l : List ℕ). RecordFeedStandsFor n.feed (s.told ++ s.next) l (has_ended 0 now))
-            (sym (more.fed 0))
-            (subst (λ (e : Bool). RecordFeedStandsFor n.feed (s.told ++ s.next) (fed 0 events) e) (sym (more.ended 0))
-            (subst (λ (f : RecordFeed). RecordFeedStandsFor f (s.told ++ s.next) (fed 0 events) (has_ended 0 events))
-            (sym same) s.feed)));
+        feed = rw (g.2, more.fed 0, more.ended 0, same) s.feed;
         seen = λ whole. s.seen (ap coming_of (sym same) ∙ whole);
         given = rw (same, none) g.3;
       };
@@ -71,6 +65,6 @@ comes_first m fresh = record {
     next = [];
     feed = fresh.feed;
     seen = λ whole. let e : Head ≡ Whole = sym fresh.coming ∙ whole in cc;
-    given = subst (λ (p : Coming). Given p [] [] m.line []) (sym fresh.coming) (refl, fresh.line);
+    given = rw fresh.coming (refl, fresh.line);
   };
 }

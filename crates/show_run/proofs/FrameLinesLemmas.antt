@@ -66,12 +66,10 @@ same_shown : (m n : FrameLines) (events : List Event) (views : List RecordView) 
     → coming_of n.feed ≢ Whole → gave events ≡ record_lines 0 views
     → RecordFeedStandsFor n.feed views (fed 0 events) (has_ended 0 events) → Shown n events
 same_shown m n events views none going seen text stands =
-    let all : views ≡ views ++ [] = sym (append-nil views) in
     record {
       told = views;
       next = [];
-      feed = subst (λ (l : List RecordView). RecordFeedStandsFor n.feed l (fed 0 events) (has_ended 0 events))
-          all stands;
+      feed = rw (append-nil views) stands;
       seen = seen;
       given = given_as (coming_of n.feed) views [] n.line (gave events) going (text, none);
     }
@@ -84,8 +82,7 @@ one_shown n events views text i = record {
   next = i.view ∷ [];
   feed = i.stands;
   seen = λ whole. let e : Head ≡ Whole = sym i.coming ∙ whole in cc;
-  given = subst (λ (p : Coming). Given p views (i.view ∷ []) n.line (gave events)) (sym i.coming)
-      (text, i.line ∙ sym (append-nil (record_line (length views) i.view)));
+  given = rw i.coming (text, i.line ∙ sym (append-nil (record_line (length views) i.view)));
 }
 
 looked_shown : (m n : FrameLines) (events : List Event) (views : List RecordView) → gave events ≡ record_lines 0 views
@@ -101,10 +98,7 @@ fed_stands : EventsTell → (f : RecordFeed) (m : FrameLines) (events : List Eve
     (has_ended 0 (events ++ Fed 0 piece ∷ []))
 fed_stands law f m events piece s takes =
     let more = law.fed 0 piece events in
-    subst (λ (l : List ℕ). RecordFeedStandsFor f (s.told ++ s.next) l (has_ended 0 (events ++ Fed 0 piece ∷ [])))
-    (sym more.here)
-    (subst (λ (e : Bool). RecordFeedStandsFor f (s.told ++ s.next) (fed 0 events ++ piece) e) (sym (more.ended 0))
-    (takes (s.told ++ s.next) (fed 0 events) (has_ended 0 events) s.feed))
+    rw (more.here, more.ended 0) (takes (s.told ++ s.next) (fed 0 events) (has_ended 0 events) s.feed)
 
 fed_text : EventsTell → (m : FrameLines) (events : List Event) (input : ℕ) (piece : List ℕ) (s : Shown m events)
     → Wants m.line (lacks_of m.feed) input → gave (events ++ Fed 0 piece ∷ []) ≡ record_lines 0 (s.told ++ s.next)
@@ -173,16 +167,13 @@ ended law start m n events input bytes wanted over seen done other stands c =
     let same : fed 0 now ≡ fed 0 events = more.here ∙ ap (λ (l : List ℕ). fed 0 events ++ l) nothing
     ∙ append-nil (fed 0 events) in
     let feed : RecordFeedStandsFor n.feed views (fed 0 now) (has_ended 0 now) =
-    subst (λ (l : List ℕ). RecordFeedStandsFor n.feed views l (has_ended 0 now)) (sym same)
-    (subst (λ (e : Bool). RecordFeedStandsFor n.feed views (fed 0 events) e) (sym more.ended)
-    (stands views (fed 0 events) (has_ended 0 events) s.feed)) in
+    rw (same, more.ended) (stands views (fed 0 events) (has_ended 0 events) s.feed) in
     subst (λ (k : ℕ). Comes start (events ++ Ended k bytes ∷ []) n) (sym w.0.only) (record {
       fresh = c.fresh;
       shown = record {
         told = views;
         next = [];
-        feed = subst (λ (l : List RecordView). RecordFeedStandsFor n.feed l (fed 0 now) (has_ended 0 now))
-            (sym (append-nil views)) feed;
+        feed = rw (append-nil views) feed;
         seen = seen;
         given = ended_given (coming_of n.feed) views (count_of n.feed) n.line (gave now) over feed.number
             (more.gave ∙ all_told m events s w.0.idle (unfinished m.feed w.0.some)) done (λ e. other e ∙ w.0.idle);

@@ -7,7 +7,7 @@ use Rattle.file_run.specs.Telling.{most_waiting, StartsWith}
 use Rattle.file_run.specs.Events.{Event, fed, has_ended, gave}
 use Rattle.file_run.specs.FileRun.{IsFed}
 use Rattle.file_run.specs.declared.machine.Step.TheVariants.{Read, Give, End}
-use Rattle.site_frame.specs.RecordFile.{AreRecords, EndsWithin, bytes_before}
+use Rattle.site_frame.specs.RecordFile.{EndsWithin, bytes_before}
 use Rattle.site_frame.specs.declared.fault.RecordWhy.{RecordWhy}
 use Rattle.site_frame.specs.declared.reading.RecordView.{RecordView}
 use Rattle.site_frame.specs.Behind.{Behind}
@@ -94,7 +94,7 @@ all_met takes within file m events place count none some near s starts is = (
     all_told m events s none
         (unfinished m.feed some),
   ),
-  subst (λ (k : ℕ). EndsWithin (s.feed.rest ++ starts.0) k) (sym (read_behind file m events place count s starts is))
+  rw (read_behind file m events place count s starts is)
       (ends_within takes within m events starts.0 count some near s),
 )
 
@@ -111,8 +111,7 @@ part_met takes within file m events place count text unsaid none some near s sta
       s.told ++ s.next,
       s.feed.rest ++ starts.0,
       records_file file (fed 0 events) starts.0 s.feed.rest (s.told ++ s.next) starts.1 s.feed.records,
-      subst (λ (k : ℕ). EndsWithin (s.feed.rest ++ starts.0) k) (sym more) (ends_within takes within m events starts.0
-          (count + 1) some near s),
+      rw more (ends_within takes within m events starts.0 (count + 1) some near s),
       sym (all_told m events s none (unfinished m.feed some)) ∙ parts,
       few,
     )
@@ -139,8 +138,7 @@ ends_idle (c ∷ line) lacks e = absurd (let f : Give ≡ End = e in cc)
 pub behind_at : (m : FrameLines) (events : List Event) (p : Coming) → coming_of m.feed ≡ p → (s : Shown m events)
     → Behind p m.feed.head m.feed.bytes.items m.feed.left s.feed.rest (has_ended 0 events)
 behind_at m events p is s =
-    subst (λ (q : Coming). Behind q m.feed.head m.feed.bytes.items m.feed.left s.feed.rest (has_ended 0 events))
-    is s.feed.behind
+    rw is at s.feed.behind
 
 ended_all : (told next : List RecordView) (line text : List ℕ) → line ≡ [] → Given Finished told next line text
     → (next ≡ [])
@@ -155,18 +153,14 @@ pub finished_text : (file : List ℕ) (place : ℕ) (m : FrameLines) (events : L
     → IsRecordText file place (Ok (count_of m.feed)) early []
 finished_text file place m events early none done s f text =
     let behind = behind_at m events Finished done s in
-    let all =
-    ended_all s.told s.next m.line (gave events) none
-    (subst (λ (p : Coming). Given p s.told s.next m.line (gave events)) done s.given) in
+    let all = ended_all s.told s.next m.line (gave events) none (rw done at s.given) in
     let whole : s.told ++ s.next ≡ s.told = ap (λ (l : List RecordView). s.told ++ l) all.0 ∙ append-nil s.told in
     let count : count_of m.feed ≡ length s.told = s.feed.number ∙ ap length whole in
     let same : file ≡ fed 0 events = f.parts ∙ ap (λ (l : List ℕ). fed 0 events ++ l) (f.end behind.1)
     ∙ append-nil (fed 0 events) in
     let a = f.ahead in let w = f.within in let n = ap length same in (
       s.told,
-      subst (λ (l : List ℕ). AreRecords l s.told []) (sym same)
-          (subst (λ (l : List RecordView). AreRecords (fed 0 events) l []) whole
-          (subst (λ (l : List ℕ). AreRecords (fed 0 events) (s.told ++ s.next) l) behind.0 s.feed.records)),
+      rw same (rw (whole, behind.0) at s.feed.records),
       count,
       sym text ∙ all.1 ∙ ap (λ (k : ℕ). record_lines 0 s.told ++ records_line k) (sym count),
       omega (arith, a, w, n),

@@ -4,14 +4,12 @@ use Rattle.std.proofs.Common.{arith, append-nil, length-append}
 use Rattle.std.specs.Prelude.{◌⊎◌, IfSome, Result, Err}
 use Rattle.std.proofs.lemmas.List.{nil_from_length}
 use Rattle.std.proofs.lemmas.Option.{IfSome_then}
-use Rattle.terms.proofs.OptionLemmas.{if_any, if_both}
-use Rattle.ports.specs.Desk.{State, Held, bytes_of}
+use Rattle.terms.proofs.OptionLemmas.{if_both}
+use Rattle.ports.specs.Desk.{State, bytes_of}
 use Rattle.file_run.specs.Reading.{longest_file}
-use Rattle.file_run.proofs.SayLemmas.{grows_same}
 use Rattle.file_run.specs.Events.{Event, fed, has_ended, gave}
 use Rattle.file_run.specs.FileRun.{IsFed}
-use Rattle.file_run.specs.Telling.{StartsWith, Tells, TellsAll}
-use Rattle.file_run.specs.declared.machine.Step.TheVariants.{Give}
+use Rattle.file_run.specs.Telling.{Tells, TellsAll}
 use Rattle.file_run.specs.declared.stop.RunFault.TheVariants.{TooLong, ReadFault, WriteFault}
 use Rattle.site_frame.specs.Laws.{OneRecord, NoRefusal}
 use Rattle.site_frame.specs.declared.fault.RecordWhy.{RecordWhy}
@@ -34,8 +32,9 @@ use Rattle.show_run.proofs.FrameWantedLemmas.{short, needs}
 use Rattle.site_frame.proofs.RecordFileLemmas.{records_file, records_first}
 use Rattle.show_run.proofs.RecordTextLemmas.{record_lines-append}
 use Rattle.site_frame.proofs.RecordSplitLemmas.{stuck_nil, same_records, records_within}
-use Rattle.show_run.proofs.PacketMetLemmas.{closed_counted, opened_counted, starts_fed}
+use Rattle.show_run.proofs.PacketMetLemmas.{starts_fed}
 use Rattle.show_run.proofs.FrameMetLemmas.{none_first, said_first, behind_at, all_met}
+use Rattle.show_run.proofs.ToldLemmas.{first_said, shows_all, shows_fault, shows_long, shows_none, shows_unwritten}
 use Rattle.show_run.proofs.FrameMetLemmas.{part_met, all_first, ends_idle, finished_text, refused_text, room_text}
 
 abbrev shows : State → State → List ℕ → Result ℕ (RunStop ShowStop) → Type 0
@@ -56,9 +55,6 @@ frames_end start now old new name t = go (coming_of now.feed) refl
     idle : now.line ≡ []
     idle = ends.0
 
-    text : gave x.events ≡ gave x.early
-    text = x.parts ∙ append-nil (gave x.early)
-
     lacking : (p : Coming) → coming_of now.feed ≡ p → lacks_at p now.feed.left ≡ 0
     lacking p is = subst (λ (q : Coming). lacks_at q now.feed.left ≡ 0) is ends.1
 
@@ -66,40 +62,12 @@ frames_end start now old new name t = go (coming_of now.feed) refl
     go Head is = absurd (let e = lacking Head is in let some = (now.feed.lacks is).0 in omega (arith, e, some))
     go Rest is = absurd (let e = lacking Rest is in let some = (now.feed.room is).0 in omega (arith, e, some))
     go Whole is = absurd (x.came.shown.seen is)
-    go (Refused why) is = record {
-      given = t.place;
-      text = gave x.early;
-      unsaid = [];
-      due = inl refl;
-      reads = (x.opened, t.short);
-      grew = x.said;
-      lines = IfSome_then old.held x.inputs (λ held f. refused_text (bytes_of held.files name) t.place now x.events
-          (gave x.early) why idle is x.came.shown f text);
-      counts = t.counts;
-    }
-    go NoRoom is = record {
-      given = t.place;
-      text = gave x.early;
-      unsaid = [];
-      due = inl refl;
-      reads = (x.opened, t.short);
-      grew = x.said;
-      lines = IfSome_then old.held x.inputs
-          (λ held f. room_text (bytes_of held.files name) t.place now x.events (gave x.early) idle is
-          x.came.shown f text);
-      counts = t.counts;
-    }
-    go Finished is = record {
-      given = t.place;
-      text = gave x.early;
-      unsaid = [];
-      due = inl refl;
-      reads = (x.opened, t.short);
-      grew = x.said;
-      lines = IfSome_then old.held x.inputs (λ held f. finished_text (bytes_of held.files name) t.place now x.events
-          (gave x.early) idle is x.came.shown f text);
-      counts = t.counts;
-    }
+    go (Refused why) is = shows_all IsRecordText (Comes start) next_of old new name now t _ (λ r. r) (λ r. r)
+        (λ file f text. refused_text file t.place now x.events (gave x.early) why idle is x.came.shown f text)
+    go NoRoom is = shows_all IsRecordText (Comes start) next_of old new name now t _ (λ r. r) (λ r. r)
+        (λ file f text. room_text file t.place now x.events (gave x.early) idle is x.came.shown f text)
+    go Finished is = shows_all IsRecordText (Comes start) next_of old new name now t _ (λ r. r) (λ r. r)
+        (λ file f text. finished_text file t.place now x.events (gave x.early) idle is x.came.shown f text)
 
 -- what was said if not all was
 some_said : (start now : FrameLines) (old new : State) (name : List ℕ) (place : ℕ) (unsaid : List ℕ)
@@ -107,19 +75,9 @@ some_said : (start now : FrameLines) (old new : State) (name : List ℕ) (place 
     × (0 < lacks_of now.feed))
     → IfSome old.held (λ held. AreFirstRecords (bytes_of held.files name) (gave x.early))
 some_said start now old new name place unsaid x wants =
-    if_both old.held _ _ _ (λ held f first. go held f first x.going) x.inputs x.first
-  where
-    go : (held : Held) → IsFed (bytes_of held.files name) place (fed 0 x.events) (has_ended 0 x.events)
-        → StartsWith (bytes_of held.files name) (fed 0 x.early) (has_ended 0 x.early) → (unsaid ≡ [])
-        ⊎ ((x.early ≡ []) ⊎ (next_of x.mid ≡ Give))
-        → AreFirstRecords (bytes_of held.files name) (gave x.early)
-    go held f first (inl none) =
-        let r = wants none in
-        subst (λ (l : List ℕ). AreFirstRecords (bytes_of held.files name) l)
-        (x.parts ∙ ap (λ (l : List ℕ). gave x.early ++ l) none ∙ append-nil (gave x.early))
-        (all_first (bytes_of held.files name) now x.events r.0 r.1 x.came.shown
-        (starts_fed (bytes_of held.files name) place (fed 0 x.events) (has_ended 0 x.events) f))
-    go held f first (inr going) = said_first start (bytes_of held.files name) x.early x.mid first x.met going
+    first_said AreFirstRecords (Comes start) next_of old new name now place unsaid x
+    (λ none file f. all_first file now x.events (wants none).0 (wants none).1 x.came.shown f)
+    (λ file first going. said_first start file x.early x.mid first x.met going)
 
 -- lines were told of records, or the file was gone through
 told_lines : (coming : Coming) (told next : List RecordView) (line text : List ℕ) → Given coming told next line text
@@ -185,98 +143,42 @@ some_left one never start now old new name place unsaid x some =
           first.2.0 (x.parts ∙ ap (λ (l : List ℕ). l ++ unsaid) first.2.1) some),
     )) x.inputs (some_said start now old new name place unsaid x (λ all. absurd (some all)))
 
--- nothing was done
-frames_none : (old new : State) (name : List ℕ) → new ≡ old → shows old new name (Err run.OutOfMemory)
-frames_none old new name s = record {
-  given = 0;
-  text = [];
-  unsaid = [];
-  due = inl refl;
-  reads = s;
-  grew = grows_same old.said new.said (ap (λ (x : State). x.said) s);
-  lines = if_any old.held _ (λ held. refl);
-  counts = ap (λ (x : State). x.counts) s;
-}
-
 pub frames_stop : OneRecord → NoRefusal → TakesOn → LacksWithin → (start now : FrameLines) (old new : State)
     (name : List ℕ)
     (why : RunStop ShowStop) → StopsLines (Comes start) next_of old new name now why → shows old new name (Err why)
 frames_stop one never takes within start now old new name (run.Refused why) s = absurd s
 frames_stop one never takes within start now old new name (run.Files (TooLong input)) s =
-    let t = s.1 in
-    let x = t.tells in
-    let r = needs now _ _ t.wants in
+    let x = s.1.tells in
+    let r = needs now _ _ s.1.wants in
     let lacks = r.0.some in
     let few = r.1 in
-    record {
-      given = longest_file;
-      text = gave x.early;
-      unsaid = [];
-      due = inl refl;
-      reads = (s.0, x.opened, refl);
-      grew = x.said;
-      lines = IfSome_then old.held x.inputs (λ held f.
-          let ahead = f.ahead in
-          let count : ℕ = longest_file - length (fed 0 x.events) in (
-            (let w = f.within in w),
-            subst (λ (l : List ℕ). SaysMetRecords (bytes_of held.files name) longest_file l) (x.parts
-                ∙ append-nil (gave x.early))
-                (all_met takes within (bytes_of held.files name) now x.events longest_file count r.0.idle r.0.some
-                (omega (arith, lacks, few)) x.came.shown (starts_fed _ _ _ _ f)
-                (omega (arith, ahead))),
-          ));
-      counts = t.counts;
-    }
-frames_stop one never takes within start now old new name (run.Files (ReadFault input)) s = elim s.1 [
-  | inl closed ↦ record {
-    given = 0;
-    text = [];
-    unsaid = [];
-    due = inl refl;
-    reads = (s.0, inl (closed.1, refl));
-    grew = grows_same old.said new.said closed.1.said;
-    lines = if_any old.held _
-        (λ held. (
-          ([], bytes_of held.files name, refl, inl (omega arith), refl, omega arith),
-          none_first (bytes_of held.files name),
-        ));
-    counts = closed_counted old new closed.0;
-  }
-  | inr more ↦
-      let t = more.1 in
-      let x = t.tells in
-      let r = short now 0 _ t.wants in
-      let lacks = r.0.some in
-      let few = r.1 in
-      record {
-        given = t.place;
-        text = gave x.early;
-        unsaid = t.unsaid;
-        due = elim t.all [ inl all ↦ inl all.0 | inr lost ↦ inr lost.1 ];
-        reads = (s.0, inr (x.opened, t.short));
-        grew = x.said;
-        lines = if_both old.held _ _ _ (λ held f first. (
-          part_met takes within (bytes_of held.files name) now x.events t.place (t.place - length (fed 0 x.events))
-              (gave x.early)
-              t.unsaid r.0.idle r.0.some (omega (arith, lacks, few)) x.came.shown (starts_fed _ _ _ _ f)
-              (let ahead = f.ahead in omega (arith, ahead)) x.parts
-              x.waits.few,
-          first,
-        )) x.inputs
-            (some_said start now old new name t.place t.unsaid x (λ none. (r.0.idle, r.0.some)));
-        counts = opened_counted old new name t.place x.opened more.0;
-      }
-]
+    shows_long IsRecordText (Comes start) next_of old new name now s.1 input s.0
+    (IfSome_then old.held x.inputs (λ held f.
+    let ahead = f.ahead in
+    let count : ℕ = longest_file - length (fed 0 x.events) in (
+      (let w = f.within in w),
+      subst (λ (l : List ℕ). SaysMetRecords (bytes_of held.files name) longest_file l) (x.parts
+          ∙ append-nil (gave x.early))
+          (all_met takes within (bytes_of held.files name) now x.events longest_file count r.0.idle r.0.some
+          (omega (arith, lacks, few)) x.came.shown (starts_fed _ _ _ _ f)
+          (omega (arith, ahead))),
+    )))
+frames_stop one never takes within start now old new name (run.Files (ReadFault input)) s =
+    shows_fault IsRecordText (Comes start) next_of old new name now input s
+    (λ file. (([], file, refl, inl (omega arith), refl, omega arith), none_first file))
+    (λ t.
+    let x = t.tells in
+    let r = short now 0 _ t.wants in
+    let lacks = r.0.some in
+    let few = r.1 in
+    if_both old.held _ _ _ (λ held f first. (
+      part_met takes within (bytes_of held.files name) now x.events t.place (t.place - length (fed 0 x.events))
+          (gave x.early) t.unsaid r.0.idle r.0.some (omega (arith, lacks, few)) x.came.shown (starts_fed _ _ _ _ f)
+          (let ahead = f.ahead in omega (arith, ahead)) x.parts x.waits.few,
+      first,
+    )) x.inputs (some_said start now old new name t.place t.unsaid x (λ none. (r.0.idle, r.0.some))))
 frames_stop one never takes within start now old new name (run.Files WriteFault) s =
-    let x = s.1.2 in
-    record {
-      given = s.1.0;
-      text = gave x.early;
-      unsaid = [];
-      due = inl refl;
-      reads = (x.opened, s.1.4);
-      grew = x.said;
-      lines = some_left one never start now old new name s.1.0 s.1.1 x s.1.3;
-      counts = s.0;
-    }
-frames_stop one never takes within start now old new name run.OutOfMemory s = frames_none old new name s
+    shows_unwritten IsRecordText (Comes start) next_of old new name now s
+    (some_left one never start now old new name s.1.0 s.1.1 s.1.2 s.1.3)
+frames_stop one never takes within start now old new name run.OutOfMemory s =
+    shows_none IsRecordText (λ file. refl) old new name s

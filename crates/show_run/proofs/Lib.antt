@@ -16,3 +16,4 @@ pub mod T2miEndLemmas
 pub mod T2miGivenLemmas
 pub mod T2miLinesLemmas
 pub mod T2miShowLemmas
+pub mod ToldLemmas

@@ -11,11 +11,12 @@ use Rattle.file_run.specs.Events.{Event, Fed, Ended, Gave, fed, has_ended, gave}
 use Rattle.file_run.specs.Laws.{EventsTell}
 use Rattle.file_run.specs.Reading.{longest_file}
 use Rattle.file_run.specs.declared.input.TheConstants.{BUFFER}
+use Rattle.file_run.specs.declared.machine.Step.{Step}
 use Rattle.file_run.specs.declared.machine.Step.TheVariants.{Read, Give, End}
-use Rattle.file_run.specs.Steps.{Suffices, FallsShort, HasRoom, CanBeRead}
+use Rattle.file_run.specs.Steps.{Suffices, FallsShort, Needs, HasRoom}
 use Rattle.show_run.specs.PacketFile.{Begins, Packs, bytes_in}
 use Rattle.show_run.specs.SaidLines.{line_of, lines_of, count_line}
-use Rattle.show_run.specs.Front.{RefusesFront, IsLacking}
+use Rattle.show_run.specs.Front.{IsLacking}
 use Rattle.show_run.specs.PacketLines.{next_from, next_of, IsWhole, Sees, Behind, Given, Shown, IsNew, Comes}
 use Rattle.show_run.specs.declared.packet_lines.PacketLines.{PacketLines}
 use Rattle.show_run.specs.declared.packet_lines.Phase.{Phase}
@@ -23,39 +24,39 @@ use Rattle.show_run.specs.declared.packet_lines.Phase.TheVariants.{Reads, Refuse
 use Rattle.show_run.proofs.PacketFileLemmas.{begins_inside, begins_on, packs_more, lines_of-append, file_len}
 use Rattle.show_run.proofs.PacketFrontLemmas.{whole_packet, lacks_some, lacks_none, whole_exact}
 
--- what is wanted tells that packets are read, and that no line waits
-reads_idle : (line : List ℕ) (phase : Phase) (input count : ℕ) → Suffices (next_from line phase) input count
-    → (line ≡ [])
-    × (phase ≡ Reads) × (input ≡ 0) × (1 ≤ count)
-reads_idle [] Reads input count s = (refl, refl, sym s.0, s.1)
-reads_idle [] (Refused why) input count s = absurd s
-reads_idle [] Finished input count s = absurd s
-reads_idle (c ∷ line) phase input count s = absurd s
+-- what is asked of the next step, which neither gives nor is the end, tells that packets are read, and that no line
+-- waits
+wants_if : (P : Step → Type 0) → (P Give → ⊥) → (P End → ⊥) → (m : PacketLines) → P (next_of m)
+    → (m.line ≡ []) × (m.phase ≡ Reads) × P (Read 0 1 BUFFER)
+wants_if P give end m p = go m.line m.phase p
+  where
+    go : (line : List ℕ) (phase : Phase) → P (next_from line phase)
+        → (line ≡ []) × (phase ≡ Reads) × P (Read 0 1 BUFFER)
+    go [] Reads p = (refl, refl, p)
+    go [] (Refused why) p = absurd (end p)
+    go [] Finished p = absurd (end p)
+    go (c ∷ line) phase p = absurd (give p)
 
 pub idle : (m : PacketLines) (input count : ℕ) → Suffices (next_of m) input count → (m.line ≡ []) × (m.phase ≡ Reads)
     × (input ≡ 0) × (1 ≤ count)
-idle m input count s = reads_idle m.line m.phase input count s
-
-short_idle : (line : List ℕ) (phase : Phase) (input count : ℕ) → FallsShort (next_from line phase) input count
-    → (line ≡ [])
-    × (phase ≡ Reads) × (input ≡ 0) × (count < 1)
-short_idle [] Reads input count s = (refl, refl, sym s.0, s.1)
-short_idle [] (Refused why) input count s = absurd s
-short_idle [] Finished input count s = absurd s
-short_idle (c ∷ line) phase input count s = absurd s
+idle m input count s =
+    let w = wants_if (λ step. Suffices step input count) (λ e. e) (λ e. e) m s in (w.0, w.1, sym w.2.0, w.2.1)
 
 pub falls_idle : (m : PacketLines) (input count : ℕ) → FallsShort (next_of m) input count → (m.line ≡ [])
     × (m.phase ≡ Reads)
     × (input ≡ 0) × (count < 1)
-falls_idle m input count s = short_idle m.line m.phase input count s
+falls_idle m input count s =
+    let w = wants_if (λ step. FallsShort step input count) (λ e. e) (λ e. e) m s in (w.0, w.1, sym w.2.0, w.2.1)
+
+pub needs_idle : (m : PacketLines) (count : ℕ) → Needs (next_of m) 0 count → (m.line ≡ []) × (m.phase ≡ Reads)
+    × (count ≤ 1)
+needs_idle m count s =
+    let w = wants_if (λ step. Needs step 0 count) (λ e. e) (λ e. e) m s in (w.0, w.1, w.2.1)
 
 -- if packets are read, behind those that were seen stands the one under way
 pub under_way : (m : PacketLines) (events : List Event) → m.phase ≡ Reads → (s : Shown m events)
     → (s.rest ≡ m.bytes.items) × IsShort s.rest × (has_ended 0 events ≡ false)
 under_way m events reads s = subst (λ (p : Phase). Behind p m.bytes.items s.rest (has_ended 0 events)) reads s.behind
-
-drop_on : (n : ℕ) (xs ys : List ℕ) → n ≤ length xs → drop n (xs ++ ys) ≡ drop n xs ++ ys
-drop_on n xs ys h = drop-append-le n xs ys h
 
 -- packets, and then more bytes
 pub packs_on : (file more rest : List ℕ) (ps : List (List ℕ)) → Packs file ps rest
@@ -63,22 +64,23 @@ pub packs_on : (file more rest : List ℕ) (ps : List (List ℕ)) → Packs file
 packs_on file more rest [] e = ap (λ (l : List ℕ). l ++ more) e
 packs_on file more rest (p ∷ ps) h = (
   begins_on file more p h.0,
-  subst (λ (l : List ℕ). Packs l ps (rest ++ more)) (sym (drop_on (length p) file more (begins_inside file p h.0)))
-      (packs_on (drop (length p) file) more rest ps h.1),
+  rw (drop-append-le (length p) file more (begins_inside file p h.0)) (packs_on (drop (length p) file) more rest ps
+      h.1),
 )
 
--- no line of some packets waits
-no_next : (at : ℕ) (next : List (List ℕ)) (line : List ℕ) → line ≡ [] → line ≡ lines_of at next → lines_of at next ≡ []
-no_next at next line none is = sym is ∙ none
+-- the lines of the next packets go behind
+lines_next : (told next : List (List ℕ)) (line text : List ℕ) → text ≡ lines_of 0 told
+    → line ≡ lines_of (bytes_in told) next
+    → text ++ line ≡ lines_of 0 (told ++ next)
+lines_next told next line text is waits =
+    let from : 0 + bytes_in told ≡ bytes_in told = omega arith in
+    rw (is, waits) (ap (λ (k : ℕ). lines_of 0 told ++ lines_of k next) (sym from) ∙ sym (lines_of-append 0 told next))
 
 -- all lines of packets that were told, if none waits
 pub told_all : (told next : List (List ℕ)) (line text : List ℕ) → line ≡ [] → text ≡ lines_of 0 told
     → line ≡ lines_of (bytes_in told) next → text ≡ lines_of 0 (told ++ next)
 told_all told next line text none is waits =
-    let from : 0 + bytes_in told ≡ bytes_in told = omega arith in
-    is ∙ sym (append-nil (lines_of 0 told)) ∙ ap (λ (l : List ℕ). lines_of 0 told ++ l)
-    (sym (no_next (bytes_in told) next line none waits))
-    ∙ ap (λ (k : ℕ). lines_of 0 told ++ lines_of k next) (sym from) ∙ sym (lines_of-append 0 told next)
+    sym (append-nil text) ∙ ap (λ (l : List ℕ). text ++ l) (sym none) ∙ lines_next told next line text is waits
 
 -- a phase in which packets may follow
 abbrev pub IsOpen : Phase → Type 0
@@ -131,7 +133,7 @@ seen_same m n was now rest idle quiet going goes at count s packs same behind =
       told = s.told ++ s.next;
       next = [];
       rest = rest;
-      packs = subst (λ (l : List (List ℕ)). Packs (fed 0 now) l rest) (sym (append-nil (s.told ++ s.next))) packs;
+      packs = rw (append-nil (s.told ++ s.next)) packs;
       place = at;
       number = count ∙ s.number ∙ ap length (sym (append-nil (s.told ++ s.next)));
       behind = behind;
@@ -139,15 +141,11 @@ seen_same m n was now rest idle quiet going goes at count s packs same behind =
           (same ∙ told_all s.told s.next m.line (gave was) idle g.0 g.1, quiet);
     }
 
-open_is : (p q : Phase) → q ≡ p → IsOpen p → IsOpen q
-open_is p q e o = subst IsOpen (sym e) o
-
 -- a piece that was fed stands behind the packet under way
 packs_fed : EventsTell → (m : PacketLines) (events : List Event) (piece : List ℕ) (s : Shown m events)
     → Packs (fed 0 (events ++ Fed 0 piece ∷ [])) (s.told ++ s.next) (s.rest ++ piece)
 packs_fed law m events piece s =
-    subst (λ (l : List ℕ). Packs l (s.told ++ s.next) (s.rest ++ piece)) (sym (law.fed 0 piece events).here)
-    (packs_on (fed 0 events) piece s.rest (s.told ++ s.next) s.packs)
+    rw (law.fed 0 piece events).here (packs_on (fed 0 events) piece s.rest (s.told ++ s.next) s.packs)
 
 at_fed : EventsTell → (m n : PacketLines) (events : List Event) (piece : List ℕ) → Shown m events
     → n.at ≡ m.at + length piece
@@ -171,67 +169,10 @@ took_some law start m n events input piece zero idle reads same quiet count at b
     subst (λ (k : ℕ). Comes start (events ++ Fed k piece ∷ []) n) (sym zero) (record {
       fresh = c.fresh;
       shown = seen_same m n events (events ++ Fed 0 piece ∷ []) (s.rest ++ piece) idle (quiet ∙ idle)
-          (open_is Reads m.phase reads tt) (open_is Reads n.phase (same ∙ reads) tt) (at_fed law m n events piece s at)
+          (rw reads tt) (rw (same ∙ reads) tt) (at_fed law m n events piece s at)
           count s
           (packs_fed law m events piece s) more.gave
-          (subst (λ (p : Phase). Behind p n.bytes.items (s.rest ++ piece) (has_ended 0 (events ++ Fed 0 piece ∷ [])))
-          (sym (same ∙ reads)) (is, subst IsShort (sym is) few, more.ended 0 ∙ b.2));
-    })
-
--- the last of a packet, which was looked at
-took_last : EventsTell → SpellIs → (start m mid n : PacketLines) (events : List Event) (input : ℕ) (piece : List ℕ)
-    → input ≡ 0 → m.line ≡ [] → m.phase ≡ Reads → mid.phase ≡ m.phase → mid.line ≡ m.line → mid.count ≡ m.count
-    → mid.at ≡ m.at + length piece → mid.bytes.items ≡ m.bytes.items ++ piece → IsWhole mid.bytes.items
-    → length mid.bytes.items ≡ told_len mid.bytes.items → n.at ≡ mid.at → Sees mid n → Comes start events m
-    → Comes start (events ++ Fed input piece ∷ []) n
-took_last law spells start m mid n events input piece zero idle reads same quiet count came bytes whole
-    exact at (inl seen) c =
-    let s = c.shown in
-    let b = under_way m events reads s in
-    let more = law.fed 0 piece events in
-    let now = events ++ Fed 0 piece ∷ [] in
-    let f = seen.front in
-    let is : mid.bytes.items ≡ s.rest ++ piece = bytes ∙ ap (λ (l : List ℕ). l ++ piece) (sym b.0) in
-    let packet : f.packet ≡ s.rest ++ piece = whole_packet spells mid.bytes.items f.packet f.begins exact ∙ is in
-    let begins : Begins (s.rest ++ piece) f.packet = subst (λ (l : List ℕ). Begins l f.packet) is f.begins in
-    let packs = packs_fed law m events piece s in
-    let none : drop (length f.packet) (s.rest ++ piece) ≡ [] =
-    ap (λ (p : List ℕ). drop (length p) (s.rest ++ piece)) packet ∙ drop-length (s.rest ++ piece) in
-    let fed_len = file_len (fed 0 now) (s.rest ++ piece) (s.told ++ s.next) packs in
-    let all = at_fed law m mid events piece s came in
-    let size = ap length is in
-    let place : mid.at - length mid.bytes.items ≡ bytes_in (s.told ++ s.next) = omega (arith, fed_len, all, size) in
-    subst (λ (k : ℕ). Comes start (events ++ Fed k piece ∷ []) n) (sym zero) (record {
-      fresh = c.fresh;
-      shown = seen_more m n events now f.packet idle (open_is Reads m.phase reads tt)
-          (open_is Reads n.phase (seen.phase ∙ same ∙ reads) tt) (at ∙ all) (seen.count ∙ ap (λ (k : ℕ). k + 1) count) s
-          (f.text ∙ ap (λ (k : ℕ). line_of k f.packet) place)
-          (subst (λ (l : List ℕ). Packs (fed 0 now) ((s.told ++ s.next) ++ f.packet ∷ []) l) none
-          (packs_more (fed 0 now) (s.rest ++ piece) (s.told ++ s.next) f.packet packs begins)) more.gave
-          (subst (λ (p : Phase). Behind p n.bytes.items [] (has_ended 0 now)) (sym (seen.phase ∙ same ∙ reads))
-          (sym seen.bytes, inl (omega arith), more.ended 0 ∙ b.2));
-    })
-took_last law spells start m mid n events input piece zero idle reads same quiet count came bytes whole
-    exact at (inr stopped) c =
-    let s = c.shown in
-    let b = under_way m events reads s in
-    let more = law.fed 0 piece events in
-    let now = events ++ Fed 0 piece ∷ [] in
-    let t = stopped.1 in
-    let is : s.rest ++ piece ≡ mid.bytes.items = ap (λ (l : List ℕ). l ++ piece) b.0 ∙ sym bytes in
-    let some : s.rest ++ piece ≢ [] = λ e. let n = ap length e in let k = ap length is in let h = whole.header in
-    absurd (omega (arith, n, k, h)) in
-    subst (λ (k : ℕ). Comes start (events ++ Fed k piece ∷ []) n) (sym zero) (record {
-      fresh = c.fresh;
-      shown = seen_same m n events now (s.rest ++ piece) idle (t.line ∙ quiet ∙ idle) (open_is Reads m.phase reads tt)
-          (open_is (Refused stopped.0) n.phase t.phase tt) (at ∙ at_fed law m mid events piece s came) (t.count
-          ∙ count) s
-          (packs_fed law m events piece s) more.gave
-          (subst (λ (p : Phase). Behind p n.bytes.items (s.rest ++ piece) (has_ended 0 now)) (sym t.phase) (
-            is ∙ sym t.bytes,
-            (some, subst (λ (l : List ℕ). RefusesFront l stopped.0) (sym is) t.refuses),
-            inr (subst IsWhole (sym is) whole),
-          ));
+          (rw (same ∙ reads) (is, rw is few, more.ended 0 ∙ b.2));
     })
 
 -- if as many bytes were taken as were lacking, and none is lacking now
@@ -243,12 +184,48 @@ pub took_whole : EventsTell → SpellIs → (start m mid n : PacketLines) (event
 took_whole law spells start m mid n events input lacked left piece sees zero idle reads same quiet count
     came bytes before few
     after none at c =
-    let b = under_way m events reads c.shown in
+    let s = c.shown in
+    let b = under_way m events reads s in
     let some = lacks_some m.bytes.items lacked before (subst IsShort b.0 b.1) in
     let whole = lacks_none mid.bytes.items left after none in
-    let exact = whole_exact m.bytes.items piece lacked before some few (subst IsWhole bytes whole) in
-    took_last law spells start m mid n events input piece zero idle reads same quiet count came bytes whole
-    (subst (λ (l : List ℕ). length l ≡ told_len l) (sym bytes) exact) at sees c
+    let exact : length mid.bytes.items ≡ told_len mid.bytes.items =
+    rw bytes (whole_exact m.bytes.items piece lacked before some few (subst IsWhole bytes whole)) in
+    let more = law.fed 0 piece events in
+    let now = events ++ Fed 0 piece ∷ [] in
+    let is : mid.bytes.items ≡ s.rest ++ piece = bytes ∙ ap (λ (l : List ℕ). l ++ piece) (sym b.0) in
+    let packs = packs_fed law m events piece s in
+    let all = at_fed law m mid events piece s came in
+    subst (λ (k : ℕ). Comes start (events ++ Fed k piece ∷ []) n) (sym zero) (elim sees [
+      | inl seen ↦
+          let f = seen.front in
+          let packet : f.packet ≡ s.rest ++ piece =
+          whole_packet spells mid.bytes.items f.packet f.begins exact ∙ is in
+          let begins : Begins (s.rest ++ piece) f.packet = rw is at f.begins in
+          let rest : drop (length f.packet) (s.rest ++ piece) ≡ [] = rw packet (drop-length (s.rest ++ piece)) in
+          let fed_len = file_len (fed 0 now) (s.rest ++ piece) (s.told ++ s.next) packs in
+          let size = ap length is in
+          let place : mid.at - length mid.bytes.items ≡ bytes_in (s.told ++ s.next) =
+          omega (arith, fed_len, all, size) in
+          record {
+            fresh = c.fresh;
+            shown = seen_more m n events now f.packet idle (rw reads tt) (rw (seen.phase ∙ same ∙ reads) tt) (at ∙ all)
+                (seen.count ∙ ap (λ (k : ℕ). k + 1) count) s
+                (f.text ∙ ap (λ (k : ℕ). line_of k f.packet) place)
+                (rw rest at (packs_more (fed 0 now) (s.rest ++ piece) (s.told ++ s.next) f.packet packs begins))
+                more.gave
+                (rw (seen.phase ∙ same ∙ reads) (sym seen.bytes, inl (omega arith), more.ended 0 ∙ b.2));
+          }
+      | inr stopped ↦
+          let t = stopped.1 in
+          let begun : s.rest ++ piece ≢ [] = λ e. let n = ap length e in let k = ap length is in
+          let h = whole.header in absurd (omega (arith, n, k, h)) in
+          record {
+            fresh = c.fresh;
+            shown = seen_same m n events now (s.rest ++ piece) idle (t.line ∙ quiet ∙ idle) (rw reads tt)
+                (rw t.phase tt) (at ∙ all) (t.count ∙ count) s packs more.gave
+                (rw t.phase (sym is ∙ sym t.bytes, (begun, rw is at t.refuses), inr (rw is at whole)));
+          }
+    ])
 
 -- the file has ended behind the packets
 pub ended_all : EventsTell → (start m n : PacketLines) (events : List Event) (input : ℕ) (bytes : List ℕ)
@@ -266,7 +243,7 @@ ended_all law start m n events input bytes wanted empty done line at count c =
     let same : fed 0 (events ++ Ended 0 bytes ∷ []) ≡ fed 0 events = more.here
     ∙ ap (λ (l : List ℕ). fed 0 events ++ l) nothing
     ∙ append-nil (fed 0 events) in
-    let g = given_of m.phase s.told s.next m.line (gave events) (open_is Reads m.phase w.1 tt) s.given in
+    let g = given_of m.phase s.told s.next m.line (gave events) (rw w.1 tt) s.given in
     let all : gave (events ++ Ended 0 bytes ∷ []) ≡ lines_of 0 packets = more.gave
     ∙ told_all s.told s.next m.line (gave events) w.0 g.0 g.1 in
     subst (λ (k : ℕ). Comes start (events ++ Ended k bytes ∷ []) n) (sym w.2) (record {
@@ -275,17 +252,11 @@ ended_all law start m n events input bytes wanted empty done line at count c =
         told = packets;
         next = [];
         rest = [];
-        packs = subst (λ (l : List (List ℕ)). Packs (fed 0 (events ++ Ended 0 bytes ∷ [])) l [])
-            (sym (append-nil packets))
-            (subst (λ (l : List ℕ). Packs l packets []) (sym same)
-            (subst (λ (l : List ℕ). Packs (fed 0 events) packets l) (b.0 ∙ none) s.packs));
+        packs = rw (append-nil packets, same) (rw (b.0 ∙ none) at s.packs);
         place = at ∙ s.place ∙ ap length (sym same);
         number = count ∙ s.number ∙ ap length (sym (append-nil packets));
-        behind = subst (λ (p : Phase). Behind p n.bytes.items [] (has_ended 0 (events ++ Ended 0 bytes ∷ [])))
-            (sym done)
-            (refl, more.ended);
-        given = subst (λ (p : Phase). Given p packets [] n.line (gave (events ++ Ended 0 bytes ∷ []))) (sym done)
-            (refl, inl (line ∙ ap count_line s.number, all));
+        behind = rw done (refl, more.ended);
+        given = rw done (refl, inl (line ∙ ap count_line s.number, all));
       };
     })
 
@@ -307,30 +278,15 @@ ended_within law start m n events input bytes wanted some refused quiet held at 
     subst (λ (k : ℕ). Comes start (events ++ Ended k bytes ∷ []) n) (sym w.2) (record {
       fresh = c.fresh;
       shown = seen_same m n events (events ++ Ended 0 bytes ∷ []) s.rest w.0 (quiet ∙ w.0)
-          (open_is Reads m.phase w.1 tt)
-          (open_is (Refused Short) n.phase refused tt) (at ∙ s.place ∙ ap length (sym same)) count s
-          (subst (λ (l : List ℕ). Packs l (s.told ++ s.next) s.rest) (sym same) s.packs) more.gave
-          (subst (λ (p : Phase). Behind p n.bytes.items s.rest (has_ended 0 (events ++ Ended 0 bytes ∷ [])))
-          (sym refused) (
+          (rw w.1 tt)
+          (rw refused tt) (at ∙ s.place ∙ ap length (sym same)) count s
+          (rw same s.packs) more.gave
+          (rw refused (
             b.0 ∙ sym held,
             ((λ e. let n = ap length (sym b.0 ∙ e) in absurd (omega (arith, n, some))), (fault, (b.1, refl), refl)),
             inl more.ended,
           ));
     })
-
--- what may be read
-pub can_be_read : (m : PacketLines) (events : List Event) → m.phase ≡ Reads → Shown m events
-    → CanBeRead 1 events (λ input. m.at + BUFFER) 0 1 BUFFER
-can_be_read m events reads s =
-    let b = under_way m events reads s in
-    record {
-      place = omega arith;
-      is_open = b.2;
-      some = omega arith;
-      few = omega arith;
-      order = omega arith;
-      near = (let at = s.place in omega (arith, at));
-    }
 
 -- what was fed fits
 pub fits : (m : PacketLines) (input count : ℕ) → HasRoom Comes m input count → input ≡ 0 → m.at + count ≤ longest_file
@@ -345,14 +301,6 @@ pub is_short : (m : PacketLines) (input count : ℕ) → HasRoom Comes m input c
 is_short m input count room reads =
     let b = under_way m room.events reads room.came.shown in
     subst IsShort b.0 b.1
-
--- the lines of the next packets go behind
-lines_next : (told next : List (List ℕ)) (line text : List ℕ) → text ≡ lines_of 0 told
-    → line ≡ lines_of (bytes_in told) next
-    → text ++ line ≡ lines_of 0 (told ++ next)
-lines_next told next line text is waits =
-    let from : 0 + bytes_in told ≡ bytes_in told = omega arith in
-    rw (is, waits) (ap (λ (k : ℕ). lines_of 0 told ++ lines_of k next) (sym from) ∙ sym (lines_of-append 0 told next))
 
 -- a line was given
 line_given : (phase : Phase) (told next : List (List ℕ)) (line text now : List ℕ) → line ≢ [] → now ≡ text ++ line
@@ -382,8 +330,7 @@ gave_line law start m n events bytes some is none phase rest at count c =
         told = g.0;
         next = g.1;
         rest = s.rest;
-        packs = subst (λ (l : List (List ℕ)). Packs (fed 0 (events ++ Gave bytes ∷ [])) l s.rest) (sym g.2)
-            (subst (λ (l : List ℕ). Packs l (s.told ++ s.next) s.rest) (sym (more.fed 0)) s.packs);
+        packs = rw (g.2, more.fed 0) s.packs;
         place = at ∙ s.place ∙ ap length (sym (more.fed 0));
         number = count ∙ s.number ∙ ap length (sym g.2);
         behind = rw (phase, rest, more.ended 0) s.behind;
@@ -409,8 +356,7 @@ comes_first m fresh = record {
     packs = refl;
     place = fresh.at;
     number = fresh.count;
-    behind = subst (λ (p : Phase). Behind p m.bytes.items [] false) (sym fresh.phase)
-        (sym fresh.bytes, inl (omega arith), refl);
-    given = subst (λ (p : Phase). Given p [] [] m.line []) (sym fresh.phase) (refl, fresh.line);
+    behind = rw fresh.phase (sym fresh.bytes, inl (omega arith), refl);
+    given = rw fresh.phase (refl, fresh.line);
   };
 }

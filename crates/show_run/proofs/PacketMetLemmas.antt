@@ -1,5 +1,5 @@
 -- What the lines of packets tell of the file: the packets that were met, and what stands behind them.
-use Rattle.std.proofs.Common.{◌≡◌, ℕ, ◌+◌, ◌-◌, ◌<◌, ◌≤◌, Bool, true, List, [], ◌∷◌, ◌++◌, length, refl, ap, sym, subst}
+use Rattle.std.proofs.Common.{◌≡◌, ℕ, ◌+◌, ◌-◌, ◌≤◌, Bool, true, List, [], ◌∷◌, ◌++◌, length, refl, ap, sym, subst}
 use Rattle.std.proofs.Common.{◌∙◌, inl, inr, arith, append-nil, length-append}
 use Rattle.std.specs.Fmt.{decimal}
 use Rattle.std.specs.Prelude.{codes, ◌⊎◌, Ok, Err}
@@ -11,10 +11,9 @@ use Rattle.t2mi_packet.specs.declared.fault.PacketWhy.{PacketWhy}
 use Rattle.file_run.specs.Telling.{most_waiting, StartsWith, ReadsFailAtLeast}
 use Rattle.file_run.specs.Events.{Event, fed, has_ended, gave}
 use Rattle.file_run.specs.FileRun.{IsFed}
-use Rattle.file_run.specs.Steps.{Needs, FallsShort}
 use Rattle.file_run.specs.declared.machine.Step.TheVariants.{Give, End}
 use Rattle.show_run.specs.PacketFile.{Packs, IsRefused}
-use Rattle.show_run.specs.PacketLines.{next_from, next_of, IsWhole, Behind, Given, Shown, Comes}
+use Rattle.show_run.specs.PacketLines.{next_from, next_of, IsWhole, Given, Shown, Comes}
 use Rattle.show_run.specs.PacketText.{AreFirst, Met, LacksFew, SaysMet, IsPacketText}
 use Rattle.show_run.specs.SaidLines.{lines_of, count_line}
 use Rattle.show_run.specs.declared.packet_lines.PacketLines.{PacketLines}
@@ -30,7 +29,7 @@ use Rattle.show_run.proofs.PacketLinesLemmas.{packs_on, under_way, told_all}
 pub packs_file : (file front more rest : List ℕ) (ps : List (List ℕ)) → file ≡ front ++ more → Packs front ps rest
     → Packs file ps (rest ++ more)
 packs_file file front more rest ps is h =
-    subst (λ (l : List ℕ). Packs l ps (rest ++ more)) (sym is) (packs_on front more rest ps h)
+    rw is (packs_on front more rest ps h)
 
 -- the lines of the first packets, if a machine has lines still to give
 first_lines : (phase : Phase) (told next : List (List ℕ)) (line text : List ℕ) → next_from line phase ≡ Give
@@ -84,21 +83,6 @@ opened_counted old new name given o f = (
       absurd (omega (arith, n, k)),
 )
 
--- a machine that wants bytes reads packets, and no line waits
-pub needs_reads : (line : List ℕ) (phase : Phase) (count : ℕ) → Needs (next_from line phase) 0 count → (line ≡ [])
-    × (phase ≡ Reads) × (count ≤ 1)
-needs_reads [] Reads count r = (refl, refl, r.1)
-needs_reads [] (Refused why) count r = absurd r
-needs_reads [] Finished count r = absurd r
-needs_reads (c ∷ line) phase count r = absurd r
-
-pub short_reads : (line : List ℕ) (phase : Phase) (count : ℕ) → FallsShort (next_from line phase) 0 count → (line ≡ [])
-    × (phase ≡ Reads) × (count < 1)
-short_reads [] Reads count r = (refl, refl, r.1)
-short_reads [] (Refused why) count r = absurd r
-short_reads [] Finished count r = absurd r
-short_reads (c ∷ line) phase count r = absurd r
-
 pub starts_fed : (file : List ℕ) (place : ℕ) (front : List ℕ) (ended : Bool) → IsFed file place front ended
     → StartsWith file front ended
 starts_fed file place front ended f = (f.more, f.parts, f.end)
@@ -107,7 +91,7 @@ starts_fed file place front ended f = (f.more, f.parts, f.end)
 quiet : (m : PacketLines) (events : List Event) → m.line ≡ [] → m.phase ≡ Reads → (s : Shown m events)
     → gave events ≡ lines_of 0 (s.told ++ s.next)
 quiet m events none reads s =
-    let g = subst (λ (p : Phase). Given p s.told s.next m.line (gave events)) reads s.given in
+    let g = rw reads at s.given in
     told_all s.told s.next m.line (gave events) none g.0 g.1
 
 -- what was met of a file is what was fed
@@ -184,19 +168,15 @@ pub finished_text : (file : List ℕ) (place : ℕ) (m : PacketLines) (events : 
     → gave events ≡ early
     → IsPacketText file place (Ok m.count) early []
 finished_text file place m events early none done s f text =
-    let behind = subst (λ (p : Phase). Behind p m.bytes.items s.rest (has_ended 0 events)) done s.behind in
-    let all =
-    ended_all s.told s.next m.line (gave events) none
-    (subst (λ (p : Phase). Given p s.told s.next m.line (gave events)) done s.given) in
+    let behind = rw done at s.behind in
+    let all = ended_all s.told s.next m.line (gave events) none (rw done at s.given) in
     let whole : s.told ++ s.next ≡ s.told = ap (λ (l : List (List ℕ)). s.told ++ l) all.0 ∙ append-nil s.told in
     let count : m.count ≡ length s.told = s.number ∙ ap length whole in
     let same : file ≡ fed 0 events = f.parts ∙ ap (λ (l : List ℕ). fed 0 events ++ l) (f.end behind.1)
     ∙ append-nil (fed 0 events) in
     let a = f.ahead in let w = f.within in let n = ap length same in (
       s.told,
-      subst (λ (l : List ℕ). Packs l s.told []) (sym same)
-          (subst (λ (l : List (List ℕ)). Packs (fed 0 events) l []) whole
-          (subst (λ (l : List ℕ). Packs (fed 0 events) (s.told ++ s.next) l) behind.0 s.packs)),
+      rw same (rw (whole, behind.0) at s.packs),
       count,
       sym text ∙ all.1 ∙ ap (λ (k : ℕ). lines_of 0 s.told ++ count_line k) (sym count),
       omega (arith, a, w, n),
@@ -206,7 +186,7 @@ finished_text file place m events early none done s f text =
 refused_on : (front more : List ℕ) (why : PacketWhy) (ended : Bool) → (ended ≡ true) ⊎ IsWhole front
     → (ended ≡ true → more ≡ []) → IsRefused front why → IsRefused (front ++ more) why
 refused_on front more why ended (inl on) end r =
-    subst (λ (l : List ℕ). IsRefused l why) (sym (ap (λ (l : List ℕ). front ++ l) (end on) ∙ append-nil front)) r
+    rw (end on, append-nil front) r
 refused_on front more why ended (inr whole) end r = refused_whole front more why whole r
 
 pub refused_text : (file : List ℕ) (place : ℕ) (m : PacketLines) (events : List Event) (early : List ℕ)
@@ -215,11 +195,11 @@ pub refused_text : (file : List ℕ) (place : ℕ) (m : PacketLines) (events : L
     → gave events ≡ early → IsPacketText file place
     (Err (run.Refused (PacketRefused (m.at - length m.bytes.items) why))) early []
 refused_text file place m events early why none refused s f text =
-    let behind = subst (λ (p : Phase). Behind p m.bytes.items s.rest (has_ended 0 events)) refused s.behind in
+    let behind = rw refused at s.behind in
     let size = file_len (fed 0 events) s.rest (s.told ++ s.next) s.packs in
     let same = ap length behind.0 in
     let at = s.place in
-    let g = subst (λ (p : Phase). Given p s.told s.next m.line (gave events)) refused s.given in (
+    let g = rw refused at s.given in (
       s.told ++ s.next,
       s.rest ++ f.more,
       packs_file file (fed 0 events) f.more s.rest (s.told ++ s.next) f.parts s.packs,

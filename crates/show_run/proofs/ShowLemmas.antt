@@ -4,17 +4,16 @@ use Rattle.std.proofs.Common.{append-nil, length-append}
 use Rattle.std.specs.Prelude.{◌⊎◌, IfSome, Result, Err}
 use Rattle.std.proofs.lemmas.List.{nil_from_length}
 use Rattle.std.proofs.lemmas.Option.{IfSome_then}
-use Rattle.terms.proofs.OptionLemmas.{if_any, if_both}
-use Rattle.ports.specs.Desk.{State, Held, bytes_of}
+use Rattle.terms.proofs.OptionLemmas.{if_both}
+use Rattle.ports.specs.Desk.{State, bytes_of}
 use Rattle.file_run.specs.Reading.{longest_file}
-use Rattle.file_run.proofs.SayLemmas.{grows_same}
 use Rattle.file_run.specs.declared.input.TheConstants.{BUFFER}
 use Rattle.t2mi_packet.specs.Laws.{OnePacket, NoRefusal, PacketLength}
 use Rattle.t2mi_packet.specs.declared.fault.PacketWhy.{PacketWhy}
 use Rattle.file_run.specs.Events.{Event, fed, has_ended, gave}
 use Rattle.file_run.specs.FileRun.{IsFed}
-use Rattle.file_run.specs.Telling.{StartsWith, Tells, TellsAll}
-use Rattle.file_run.specs.declared.machine.Step.TheVariants.{Read, Give, End}
+use Rattle.file_run.specs.Telling.{Tells, TellsAll}
+use Rattle.file_run.specs.declared.machine.Step.TheVariants.{Read, End}
 use Rattle.file_run.specs.declared.stop.RunFault.TheVariants.{TooLong, ReadFault, WriteFault}
 use Rattle.show_run.specs.PacketFile.{Packs, bytes_in, IsRefused}
 use Rattle.show_run.specs.PacketLines.{next_from, next_of, Behind, Given, Shown, Comes, packets_end}
@@ -30,8 +29,10 @@ use Rattle.file_run.specs.declared.stop.RunStop.TheVariants as run
 use Rattle.show_run.specs.declared.stop.ShowStop.{ShowStop}
 use Rattle.show_run.proofs.EndLemmas.{packs_within, same_packets}
 use Rattle.show_run.proofs.PacketFileLemmas.{packs_first, lines_of-append}
-use Rattle.show_run.proofs.PacketMetLemmas.{packs_file, none_first, said_first, closed_counted, opened_counted}
-use Rattle.show_run.proofs.PacketMetLemmas.{needs_reads, short_reads, starts_fed, all_met, some_met, none_met}
+use Rattle.show_run.proofs.PacketLinesLemmas.{falls_idle, needs_idle}
+use Rattle.show_run.proofs.PacketMetLemmas.{packs_file, none_first, said_first}
+use Rattle.show_run.proofs.ToldLemmas.{first_said, shows_all, shows_fault, shows_long, shows_none, shows_unwritten}
+use Rattle.show_run.proofs.PacketMetLemmas.{starts_fed, all_met, some_met, none_met}
 use Rattle.show_run.proofs.PacketMetLemmas.{all_first, ends_idle, finished_text, refused_text}
 
 abbrev shows : State → State → List ℕ → Result ℕ (RunStop ShowStop) → Type 0
@@ -49,35 +50,14 @@ shows_end start now old new name t = go now.phase refl
     idle : now.line ≡ []
     idle = ends_idle now.line now.phase t.end
 
-    text : gave x.events ≡ gave x.early
-    text = x.parts ∙ append-nil (gave x.early)
-
     go : (p : Phase) → now.phase ≡ p → shows old new name (packets_end p (now.at - length now.bytes.items) now.count)
     go Reads is =
         absurd (let e : Read 0 1 BUFFER ≡ End = subst (λ (p : Phase). next_from [] p ≡ End) is
         (subst (λ (l : List ℕ). next_from l now.phase ≡ End) idle t.end) in cc)
-    go (Refused why) is = record {
-      given = t.place;
-      text = gave x.early;
-      unsaid = [];
-      due = inl refl;
-      reads = (x.opened, t.short);
-      grew = x.said;
-      lines = IfSome_then old.held x.inputs (λ held f. refused_text (bytes_of held.files name) t.place now x.events
-          (gave x.early) why idle is x.came.shown f text);
-      counts = t.counts;
-    }
-    go Finished is = record {
-      given = t.place;
-      text = gave x.early;
-      unsaid = [];
-      due = inl refl;
-      reads = (x.opened, t.short);
-      grew = x.said;
-      lines = IfSome_then old.held x.inputs (λ held f. finished_text (bytes_of held.files name) t.place now x.events
-          (gave x.early) idle is x.came.shown f text);
-      counts = t.counts;
-    }
+    go (Refused why) is = shows_all IsPacketText (Comes start) next_of old new name now t _ (λ r. r) (λ r. r)
+        (λ file f text. refused_text file t.place now x.events (gave x.early) why idle is x.came.shown f text)
+    go Finished is = shows_all IsPacketText (Comes start) next_of old new name now t _ (λ r. r) (λ r. r)
+        (λ file f text. finished_text file t.place now x.events (gave x.early) idle is x.came.shown f text)
 
 -- what was said if not all was
 some_said : (start now : PacketLines) (old new : State) (name : List ℕ) (place : ℕ) (unsaid : List ℕ)
@@ -85,20 +65,9 @@ some_said : (start now : PacketLines) (old new : State) (name : List ℕ) (place
     × (now.phase ≡ Reads))
     → IfSome old.held (λ held. AreFirst (bytes_of held.files name) (gave x.early))
 some_said start now old new name place unsaid x reads =
-    if_both old.held _ _ _ (λ held f first. go held f first x.going) x.inputs x.first
-  where
-    go : (held : Held) → IsFed (bytes_of held.files name) place (fed 0 x.events) (has_ended 0 x.events)
-        → StartsWith (bytes_of held.files name) (fed 0 x.early) (has_ended 0 x.early) → (unsaid ≡ [])
-        ⊎ ((x.early ≡ []) ⊎ (next_of x.mid ≡ Give))
-        → AreFirst (bytes_of held.files name) (gave x.early)
-    go held f first (inl none) =
-        let r = reads none in
-        subst (λ (l : List ℕ). AreFirst (bytes_of held.files name) l) (x.parts
-        ∙ ap (λ (l : List ℕ). gave x.early ++ l) none
-        ∙ append-nil (gave x.early))
-        (all_first (bytes_of held.files name) now x.events r.0 r.1 x.came.shown
-        (starts_fed (bytes_of held.files name) place (fed 0 x.events) (has_ended 0 x.events) f))
-    go held f first (inr going) = said_first start (bytes_of held.files name) x.early x.mid first x.met going
+    first_said AreFirst (Comes start) next_of old new name now place unsaid x
+    (λ none file f. all_first file now x.events (reads none).0 (reads none).1 x.came.shown f)
+    (λ file first going. said_first start file x.early x.mid first x.met going)
 
 -- lines were told of packets, or the file was gone through
 told_lines : (phase : Phase) (told next : List (List ℕ)) (line text : List ℕ) → Given phase told next line text
@@ -163,85 +132,31 @@ some_left one none sizes start now old new name place unsaid x some =
       first.3,
     )) x.inputs (some_said start now old new name place unsaid x (λ all. absurd (some all)))
 
--- nothing was done
-pub shows_none : (IsText : List ℕ → ℕ → Result ℕ (RunStop ShowStop) → List ℕ → List ℕ → Type 0)
-    → ((file : List ℕ) → IsText file 0 (Err run.OutOfMemory) [] []) → (old new : State) (name : List ℕ) → new ≡ old
-    → Shows IsText old new name (Err run.OutOfMemory)
-shows_none IsText nothing old new name s = record {
-  given = 0;
-  text = [];
-  unsaid = [];
-  due = inl refl;
-  reads = s;
-  grew = grows_same old.said new.said (ap (λ (x : State). x.said) s);
-  lines = if_any old.held _ (λ held. nothing (bytes_of held.files name));
-  counts = ap (λ (x : State). x.counts) s;
-}
-
 pub shows_stop : OnePacket → NoRefusal → PacketLength → (start now : PacketLines) (old new : State) (name : List ℕ)
     (why : RunStop ShowStop) → StopsLines (Comes start) next_of old new name now why → shows old new name (Err why)
 shows_stop one none sizes start now old new name (run.Refused why) s = absurd s
 shows_stop one none sizes start now old new name (run.Files (TooLong input)) s =
-    let t = s.1 in
+    let x = s.1.tells in
+    let r = needs_idle now _ s.1.wants in
+    shows_long IsPacketText (Comes start) next_of old new name now s.1 input s.0
+    (IfSome_then old.held x.inputs (λ held f. (
+      (let w = f.within in w),
+      subst (λ (l : List ℕ). SaysMet (bytes_of held.files name) longest_file l) (x.parts ∙ append-nil (gave x.early))
+          (all_met (bytes_of held.files name) now x.events longest_file r.0 r.1 x.came.shown (starts_fed _ _ _ _ f)
+          f.ahead (let n = r.2 in omega (arith, n))),
+    )))
+shows_stop one none sizes start now old new name (run.Files (ReadFault input)) s =
+    shows_fault IsPacketText (Comes start) next_of old new name now input s (λ file. (none_met file, none_first file))
+    (λ t.
     let x = t.tells in
-    let r = needs_reads now.line now.phase _ t.wants in
-    record {
-      given = longest_file;
-      text = gave x.early;
-      unsaid = [];
-      due = inl refl;
-      reads = (s.0, x.opened, refl);
-      grew = x.said;
-      lines = IfSome_then old.held x.inputs (λ held f. (
-        (let w = f.within in w),
-        subst (λ (l : List ℕ). SaysMet (bytes_of held.files name) longest_file l) (x.parts ∙ append-nil (gave x.early))
-            (all_met (bytes_of held.files name) now x.events longest_file r.0 r.1 x.came.shown (starts_fed _ _ _ _ f)
-            f.ahead (let n = r.2 in omega (arith, n))),
-      ));
-      counts = t.counts;
-    }
-shows_stop one none sizes start now old new name (run.Files (ReadFault input)) s = elim s.1 [
-  | inl closed ↦ record {
-    given = 0;
-    text = [];
-    unsaid = [];
-    due = inl refl;
-    reads = (s.0, inl (closed.1, refl));
-    grew = grows_same old.said new.said closed.1.said;
-    lines = if_any old.held _
-        (λ held. (none_met (bytes_of held.files name), none_first (bytes_of held.files name)));
-    counts = closed_counted old new closed.0;
-  }
-  | inr some ↦
-      let t = some.1 in
-      let x = t.tells in
-      let r = short_reads now.line now.phase _ t.wants in
-      record {
-        given = t.place;
-        text = gave x.early;
-        unsaid = t.unsaid;
-        due = elim t.all [ inl all ↦ inl all.0 | inr lost ↦ inr lost.1 ];
-        reads = (s.0, inr (x.opened, t.short));
-        grew = x.said;
-        lines = if_both old.held _ _ _ (λ held f first. (
-          some_met (bytes_of held.files name) now x.events t.place (gave x.early) t.unsaid r.0 r.1 x.came.shown
-              (starts_fed _ _ _ _ f) (let d = r.2 in let a = f.ahead in omega (arith, d, a)) x.parts x.waits.few,
-          first,
-        )) x.inputs (some_said start now old new name t.place t.unsaid x (λ none. (r.0, r.1)));
-        counts = opened_counted old new name t.place x.opened some.0;
-      }
-]
+    let r = falls_idle now 0 _ t.wants in
+    if_both old.held _ _ _ (λ held f first. (
+      some_met (bytes_of held.files name) now x.events t.place (gave x.early) t.unsaid r.0 r.1 x.came.shown
+          (starts_fed _ _ _ _ f) (let d = r.3 in let a = f.ahead in omega (arith, d, a)) x.parts x.waits.few,
+      first,
+    )) x.inputs (some_said start now old new name t.place t.unsaid x (λ none. (r.0, r.1))))
 shows_stop one none sizes start now old new name (run.Files WriteFault) s =
-    let x = s.1.2 in
-    record {
-      given = s.1.0;
-      text = gave x.early;
-      unsaid = [];
-      due = inl refl;
-      reads = (x.opened, s.1.4);
-      grew = x.said;
-      lines = some_left one none sizes start now old new name s.1.0 s.1.1 x s.1.3;
-      counts = s.0;
-    }
-shows_stop one none sizes start now old new name run.OutOfMemory s = shows_none IsPacketText (λ file. refl)
-    old new name s
+    shows_unwritten IsPacketText (Comes start) next_of old new name now s
+    (some_left one none sizes start now old new name s.1.0 s.1.1 s.1.2 s.1.3)
+shows_stop one none sizes start now old new name run.OutOfMemory s =
+    shows_none IsPacketText (λ file. refl) old new name s

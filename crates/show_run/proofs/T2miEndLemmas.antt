@@ -1,5 +1,5 @@
 -- What of a stream is wanted, and what is known once it has ended.
-use Rattle.std.proofs.Common.{◌≡◌, ℕ, ◌+◌, ◌-◌, ◌/◌, ◌<◌, ◌≤◌, Bool, true, false, cond, List, [], ◌∷◌, ◌++◌, length}
+use Rattle.std.proofs.Common.{◌≡◌, ℕ, ◌+◌, ◌-◌, ◌/◌, ◌<◌, Bool, true, false, cond, List, [], ◌∷◌, ◌++◌, length}
 use Rattle.std.proofs.Common.{take, drop, map}
 use Rattle.std.proofs.Common.{refl, ap, ap₂, sym, subst, ◌∙◌, inl, inr, arith, append_assoc, append-nil, length-append}
 use Rattle.std.specs.Prelude.{◌⊎◌, nat_lt}
@@ -17,6 +17,7 @@ use Rattle.t2mi_stream.specs.Skipping.{further}
 use Rattle.t2mi_stream.specs.Units.{Cut, accepted_in, accepted_of}
 use Rattle.t2mi_stream.proofs.UnitLemmas.{runs_same}
 use Rattle.t2mi_stream.specs.UnpiperStandsFor.{UnpiperStandsFor, is_ready, AllReleased}
+use Rattle.t2mi_stream.specs.declared.unpiper.Unpiper.{Unpiper}
 use Rattle.file_run.specs.Events.{Event, Fed, Ended, fed, has_ended, gave}
 use Rattle.file_run.specs.FileRun.{IsFed}
 use Rattle.file_run.specs.Laws.{EventsTell}
@@ -74,10 +75,14 @@ behind_all law m all text ended f more =
     ap t2mi_packets_in whole ∙ law f.front rest f.pid f.none (omega (arith, n, k, w))
     (ap (λ (l : List ℕ). pid_of (fields_in l)) unit ∙ f.tells)
 
+-- an unpiper was asked for all packets
+abbrev HasReleased : Unpiper → Type 0
+HasReleased unpiper = (p : ℕ) (events : List stream.UnpiperEvent) → UnpiperStandsFor unpiper p events
+    → AllReleased p events
+
 -- all packets of what came were given, if none waits and no byte of the unit that told the PID is left
 given_all : PacketsBehind → (m : T2miLines) (all text : List ℕ) (ended : Bool) (f : Unpiping m all text ended)
-    → drop m.from m.unit ≡ []
-    → ((p : ℕ) (events : List stream.UnpiperEvent) → UnpiperStandsFor m.unpiper p events → AllReleased p events)
+    → drop m.from m.unit ≡ [] → HasReleased m.unpiper
     → (length (t2mi_packets_in all) ≡ m.count) × (text ≡ place_lines (t2mi_packets_in all))
 given_all behind m all text ended f held released =
     let u = f.unpiped in
@@ -97,10 +102,8 @@ given_all behind m all text ended f held released =
 -- the file has ended behind the unit that told the PID
 ended_unpiping : EventsTell → PacketsBehind → (start m n : T2miLines) (events : List Event) (bytes : List ℕ)
     → m.search ≡ Unpipes
-    → bytes ≡ [] → drop m.from m.unit ≡ [] → ((p : ℕ) (events : List stream.UnpiperEvent)
-    → UnpiperStandsFor m.unpiper p events
-    → AllReleased p events)
-    → n.search ≡ Finished → n.at ≡ m.at + length bytes → n.count ≡ m.count → n.line ≡ count_line m.count
+    → bytes ≡ [] → drop m.from m.unit ≡ [] → HasReleased m.unpiper → n.search ≡ Finished
+    → n.at ≡ m.at + length bytes → n.count ≡ m.count → n.line ≡ count_line m.count
     → Comes start events m
     → Comes start (events ++ Ended 0 bytes ∷ []) n
 ended_unpiping law behind start m n events bytes unpipes none held released done at count line c =
@@ -122,73 +125,44 @@ ended_unpiping law behind start m n events bytes unpipes none held released done
       };
     }
 
--- what is wanted
-wanted_in : (search : Search) (ready : Bool) (left : ℕ) (line : List ℕ) (input count : ℕ)
-    → Suffices (next_in search ready left line) input count → input ≡ 0
-wanted_in Seeks ready left line input count s = sym s.0
-wanted_in Unpipes true left line input count s = absurd s
-wanted_in Unpipes false left line input count s = go (nat_lt 0 left) s
+-- What is asked of the next step, which neither gives nor is the end, is asked of reading: of a unit that may tell the
+-- PID, or of any byte, if no packet waits and no byte of the unit that told the PID is left.
+abbrev Asked : (Step → Type 0) → Search → Bool → ℕ → Type 0
+Asked P search ready left = ((search ≡ Seeks) × P (Read 0 SIZE BUFFER))
+    ⊎ ((search ≡ Unpipes) × (ready ≡ false) × (left ≡ 0) × P (Read 0 1 BUFFER))
+
+asked_in : (P : Step → Type 0) → (P Give → ⊥) → (P End → ⊥) → (search : Search) (ready : Bool) (left : ℕ)
+    (line : List ℕ) → P (next_in search ready left line) → Asked P search ready left
+asked_in P give end Seeks ready left line s = inl (refl, s)
+asked_in P give end Unpipes true left line s = absurd (give s)
+asked_in P give end Unpipes false left line s = go (nat_lt 0 left) refl s
   where
-    go : (b : Bool) → Suffices (cond b Give (Read 0 1 BUFFER)) input count → input ≡ 0
-    go true s = absurd s
-    go false s = sym s.0
-wanted_in Finished ready left [] input count s = absurd s
-wanted_in Finished ready left (c ∷ line) input count s = absurd s
+    go : (b : Bool) → nat_lt 0 left ≡ b → P (cond b Give (Read 0 1 BUFFER)) → Asked P Unpipes false left
+    go true is s = absurd (give s)
+    go false is s = inr (refl, refl, (let n = ltb-false 0 left is in omega (arith, n)), s)
+asked_in P give end Finished ready left [] s = absurd (end s)
+asked_in P give end Finished ready left (c ∷ line) s = absurd (give s)
+
+asked : (P : Step → Type 0) → (P Give → ⊥) → (P End → ⊥) → (m : T2miLines) → P (next_of m)
+    → Asked P m.search (is_ready m.unpiper) (SIZE - m.from)
+asked P give end m s = asked_in P give end m.search (is_ready m.unpiper) (SIZE - m.from) m.line s
 
 pub wanted : (m : T2miLines) (input count : ℕ) → Suffices (next_of m) input count → input ≡ 0
-wanted m input count s = wanted_in m.search (is_ready m.unpiper) (SIZE - m.from) m.line input count s
+wanted m input count s = elim (asked (λ step. Suffices step input count) (λ e. e) (λ e. e) m s) [
+  | inl w ↦ sym w.1.0
+  | inr w ↦ sym w.3.0
+]
 
 pub at_input : (start n : T2miLines) (events : List Event) (input : ℕ) (bytes : List ℕ) → input ≡ 0
     → Comes start (events ++ Fed 0 bytes ∷ []) n → Comes start (events ++ Fed input bytes ∷ []) n
 at_input start n events input bytes zero c = subst (λ (k : ℕ). Comes start (events ++ Fed k bytes ∷ []) n) (sym zero) c
 
--- what is too little
-short_in : (search : Search) (ready : Bool) (left : ℕ) (line : List ℕ) (input count : ℕ)
-    → FallsShort (next_in search ready left line) input count → (input ≡ 0)
-    × (((search ≡ Seeks) × (count < SIZE)) ⊎ ((search ≡ Unpipes) × (ready ≡ false) × (left ≡ 0) × (count ≡ 0)))
-short_in Seeks ready left line input count s = (sym s.0, inl (refl, s.1))
-short_in Unpipes true left line input count s = absurd s
-short_in Unpipes false left line input count s = go (nat_lt 0 left) refl s
-  where
-    go : (b : Bool) → nat_lt 0 left ≡ b → FallsShort (cond b Give (Read 0 1 BUFFER)) input count → (input ≡ 0)
-        × (((Unpipes ≡ Seeks) × (count < SIZE)) ⊎ ((Unpipes ≡ Unpipes) × (false ≡ false) × (left ≡ 0) × (count ≡ 0)))
-    go true is s = absurd s
-    go false is s = (
-      sym s.0,
-      inr (
-        refl,
-        refl,
-        (let n = ltb-false 0 left is in omega (arith, n)),
-        (let k = s.1 in omega (arith, k)),
-      ),
-    )
-short_in Finished ready left [] input count s = absurd s
-short_in Finished ready left (c ∷ line) input count s = absurd s
-
--- what it needs
-needs_in : (search : Search) (ready : Bool) (left : ℕ) (line : List ℕ) (count : ℕ)
-    → Needs (next_in search ready left line) 0 count → ((search ≡ Seeks) × (count ≤ SIZE))
-    ⊎ ((search ≡ Unpipes) × (ready ≡ false) × (left ≡ 0) × (count ≤ 1))
-needs_in Seeks ready left line count s = inl (refl, s.1)
-needs_in Unpipes true left line count s = absurd s
-needs_in Unpipes false left line count s = go (nat_lt 0 left) refl s
-  where
-    go : (b : Bool) → nat_lt 0 left ≡ b → Needs (cond b Give (Read 0 1 BUFFER)) 0 count
-        → ((Unpipes ≡ Seeks) × (count ≤ SIZE))
-        ⊎ ((Unpipes ≡ Unpipes) × (false ≡ false) × (left ≡ 0) × (count ≤ 1))
-    go true is s = absurd s
-    go false is s = inr (refl, refl, (let n = ltb-false 0 left is in omega (arith, n)), s.1)
-needs_in Finished ready left [] count s = absurd s
-needs_in Finished ready left (c ∷ line) count s = absurd s
-
 -- if it needs bytes, the lines of all packets in those that came were given
 pub all_given : NoPackets → PacketsBehind → (start m : T2miLines) (events : List Event) (least : ℕ)
-    → length m.unit ≡ SIZE
-    → (is_ready m.unpiper ≡ false → (p : ℕ) (events : List stream.UnpiperEvent) → UnpiperStandsFor m.unpiper p events
-    → AllReleased p events)
-    → Comes start events m → Needs (next_of m) 0 least → gave events ≡ place_lines (t2mi_packets_in (fed 0 events))
+    → length m.unit ≡ SIZE → (is_ready m.unpiper ≡ false → HasReleased m.unpiper) → Comes start events m
+    → Needs (next_of m) 0 least → gave events ≡ place_lines (t2mi_packets_in (fed 0 events))
 all_given none behind start m events least size released c s =
-    elim (needs_in m.search (is_ready m.unpiper) (SIZE - m.from) m.line least s) [
+    elim (asked (λ step. Needs step 0 least) (λ e. e) (λ e. e) m s) [
       | inl seeks ↦
           let f = found_in m _ _ _ Seeks seeks.0 c.shown.found in
           let empty : t2mi_packets_in (fed 0 events) ≡ [] = ap t2mi_packets_in (sym (append-nil (fed 0 events)))
@@ -227,15 +201,15 @@ same_needed : NoPackets → PacketsBehind → (start m : T2miLines) (events : Li
     → length (fed 0 events) + length more ≡ longest_file → Needs (next_of m) 0 (length more)
     → t2mi_packets_in (fed 0 events ++ more) ≡ t2mi_packets_in (fed 0 events)
 same_needed none behind start m events more c all s =
-    elim (needs_in m.search (is_ready m.unpiper) (SIZE - m.from) m.line (length more) s) [
+    elim (asked (λ step. Needs step 0 (length more)) (λ e. e) (λ e. e) m s) [
       | inl seeks ↦
           let f = found_in m _ _ _ Seeks seeks.0 c.shown.found in
           let w = f.none.whole in
-          let few = seeks.1 in
+          let few = seeks.1.1 in
           same_seeking none m (fed 0 events) (gave events) more (has_ended 0 events) f (omega (arith, w, few, all))
       | inr unpipes ↦
           let f = found_in m _ _ _ Unpipes unpipes.0 c.shown.found in
-          let few = unpipes.3 in
+          let few = unpipes.3.1 in
           same_unpiping behind m (fed 0 events) (gave events) more (has_ended 0 events) f (omega (arith, few, all))
     ]
 
@@ -244,12 +218,13 @@ same_short : NoPackets → PacketsBehind → (start m : T2miLines) (events : Lis
     → Comes start events m
     → FallsShort (next_of m) 0 (length more) → t2mi_packets_in (fed 0 events ++ more) ≡ t2mi_packets_in (fed 0 events)
 same_short none behind start m events more c s =
-    elim (short_in m.search (is_ready m.unpiper) (SIZE - m.from) m.line 0 (length more) s).1 [
+    elim (asked (λ step. FallsShort step 0 (length more)) (λ e. e) (λ e. e) m s) [
       | inl seeks ↦
           same_seeking none m (fed 0 events) (gave events) more (has_ended 0 events)
-          (found_in m _ _ _ Seeks seeks.0 c.shown.found) seeks.1
+          (found_in m _ _ _ Seeks seeks.0 c.shown.found) seeks.1.1
       | inr unpipes ↦
-          ap (λ (l : List ℕ). t2mi_packets_in (fed 0 events ++ l)) (nil_from_length more unpipes.3)
+          ap (λ (l : List ℕ). t2mi_packets_in (fed 0 events ++ l))
+          (nil_from_length more (let few = unpipes.3.1 in omega (arith, few)))
           ∙ ap t2mi_packets_in (append-nil (fed 0 events))
     ]
 
@@ -299,16 +274,17 @@ short_needs End count s = absurd s
 pub ended : EventsTell → NoPackets → PacketsBehind → (start m n : T2miLines) (events : List Event) (input : ℕ)
     (bytes : List ℕ)
     → FallsShort (next_of m) input (length bytes) → length m.unit ≡ SIZE
-    → (is_ready m.unpiper ≡ false → (p : ℕ) (events : List stream.UnpiperEvent) → UnpiperStandsFor m.unpiper p events
-    → AllReleased p events)
-    → n.search ≡ Finished → n.at ≡ m.at + length bytes → n.count ≡ m.count → n.line ≡ count_line m.count
+    → (is_ready m.unpiper ≡ false → HasReleased m.unpiper) → n.search ≡ Finished → n.at ≡ m.at + length bytes
+    → n.count ≡ m.count → n.line ≡ count_line m.count
     → Comes start events m
     → Comes start (events ++ Ended input bytes ∷ []) n
 ended law none behind start m n events input bytes s size released done at count line c =
-    let w = short_in m.search (is_ready m.unpiper) (SIZE - m.from) m.line input (length bytes) s in
-    subst (λ (k : ℕ). Comes start (events ++ Ended k bytes ∷ []) n) (sym w.0) (elim w.1 [
-      | inl seeks ↦ ended_seeking law none start m n events bytes seeks.0 seeks.1 done at count line c
-      | inr unpipes ↦ ended_unpiping law behind start m n events bytes unpipes.0 (nil_from_length bytes unpipes.3)
+    elim (asked (λ step. FallsShort step input (length bytes)) (λ e. e) (λ e. e) m s) [
+      | inl seeks ↦ subst (λ (k : ℕ). Comes start (events ++ Ended k bytes ∷ []) n) seeks.1.0
+          (ended_seeking law none start m n events bytes seeks.0 seeks.1.1 done at count line c)
+      | inr unpipes ↦ subst (λ (k : ℕ). Comes start (events ++ Ended k bytes ∷ []) n) unpipes.3.0
+          (ended_unpiping law behind start m n events bytes unpipes.0
+          (nil_from_length bytes (let few = unpipes.3.1 in omega (arith, few)))
           (drop_of_length-le m.unit (let l = unpipes.2 in omega (arith, l, size))) (released unpipes.1)
-          done at count line c
-    ])
+          done at count line c)
+    ]

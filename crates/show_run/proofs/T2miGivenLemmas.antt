@@ -1,6 +1,6 @@
 -- Lines of packets in units are given.
 use Rattle.std.proofs.Common.{◌≡◌, ℕ, ◌+◌, ◌-◌, ◌^◌, ◌<◌, ◌≤◌, List, [], ◌∷◌, ◌++◌, length, take, drop, map, min}
-use Rattle.std.proofs.Common.{Option, Some, None, refl, ap, ap₂, sym, subst, ◌∙◌, arith, append-nil, length-append}
+use Rattle.std.proofs.Common.{Option, Some, None, refl, ap, ap₂, sym, ◌∙◌, arith, append-nil, length-append}
 use Rattle.std.specs.Prelude.{option_map, slice_get, codes}
 use Rattle.std.proofs.lemmas.List.{length-map, take_more}
 use Rattle.std.proofs.lemmas.List.Concat.{flat_map-append}
@@ -22,12 +22,10 @@ use Rattle.show_run.specs.T2miLines.{packets_from, Unpiped, Comes}
 use Rattle.show_run.specs.T2miText.{place_line, place_lines}
 use Rattle.show_run.specs.declared.t2mi_lines.T2miLines.{T2miLines}
 use Rattle.show_run.specs.declared.t2mi_lines.Search.TheVariants.{Unpipes}
-use Rattle.show_run.proofs.T2miLinesLemmas.{found_as, found_in}
+use Rattle.show_run.proofs.T2miLinesLemmas.{Becomes, found_as, found_in}
 
-given_up : EventsPush → (old new : Unpiper) (pid : ℕ) (bytes : List ℕ) (number : ℕ) →
-    ((p : ℕ) (events : List stream.UnpiperEvent) → UnpiperStandsFor old p events
-    → UnpiperStandsFor new p (events ++ Released ∷ [])) → Unpiped old pid bytes number
-    → Unpiped new pid bytes (number + 1)
+given_up : EventsPush → (old new : Unpiper) (pid : ℕ) (bytes : List ℕ) (number : ℕ)
+    → Becomes old Released new → Unpiped old pid bytes number → Unpiped new pid bytes (number + 1)
 given_up law old new pid bytes number f u = record {
   events = u.events ++ Released ∷ [];
   fed_are = (law u.events).fed_same ∙ u.fed_are;
@@ -74,8 +72,7 @@ pub gave_packet : EventsTell → EventsPush → PacketPlaces → FewPackets
     → option_map (λ a. a.place) (next_packet p events) ≡ Some place)
     → ((p : ℕ) (events : List stream.UnpiperEvent) → UnpiperStandsFor m.unpiper p events
     → option_map (λ a. a.bytes) (next_packet p events) ≡ Some bytes)
-    → ((p : ℕ) (events : List stream.UnpiperEvent) → UnpiperStandsFor m.unpiper p events
-    → UnpiperStandsFor n.unpiper p (events ++ Released ∷ [])) → Comes start events m
+    → Becomes m.unpiper Released n.unpiper → Comes start events m
     → Comes start (events ++ Gave line ∷ []) n
 gave_packet law push places few start m n events place at bytes line unpipes same where_ small base unit
     from count idle there
@@ -112,13 +109,11 @@ gave_packet law push places few start m n events place at bytes line unpipes sam
           more = f.more;
           none = f.none;
           base = base ∙ f.base;
-          parts = more.fed 0 ∙ f.parts ∙ ap₂ (λ (j : ℕ) (l : List ℕ). f.front ++ (f.bytes ++ drop j l))
-              (sym from) (sym unit);
-          begins = ap₂ (λ (j : ℕ) (l : List ℕ). f.bytes ++ drop j l) from unit ∙ f.begins;
+          parts = rw (from, unit) (more.fed 0 ∙ f.parts);
+          begins = rw (from, unit) f.begins;
           whole = f.whole;
           tells = f.tells;
-          unpiped = subst (λ (j : ℕ). Unpiped n.unpiper f.pid f.bytes j) (sym count_is)
-              (given_up push m.unpiper n.unpiper f.pid f.bytes m.count released u);
+          unpiped = rw count_is (given_up push m.unpiper n.unpiper f.pid f.bytes m.count released u);
           few = omega (arith, count_is, io);
           lines = more.gave ∙ ap₂ (λ (x : List ℕ) (y : List ℕ). x ++ y) f.lines line_is
               ∙ sym (ap (λ (j : ℕ). place_lines (take j (packets_from f.pid (length f.front) f.bytes))) count_is

@@ -71,6 +71,11 @@ passed law on start m n events unit seeks size silent same at from count line c 
       };
     }
 
+-- an unpiper becomes another one by something more that is done to it
+abbrev pub Becomes : Unpiper → stream.UnpiperEvent → Unpiper → Type 0
+Becomes old event new = (p : ℕ) (events : List stream.UnpiperEvent) → UnpiperStandsFor old p events
+    → UnpiperStandsFor new p (events ++ event ∷ [])
+
 none_fed : (unpiper : Unpiper) (pid : ℕ) → UnpiperStandsFor unpiper pid [] → Unpiped unpiper pid [] 0
 unfolding stream.fed stream.released
 none_fed unpiper pid h = record { events = []; fed_are = refl; number = refl; stands = h }
@@ -105,19 +110,15 @@ found law start m n events pid unit seeks size tells unpipes at base is from cou
           tells = tells;
           unpiped = subst (λ (k : ℕ). Unpiped n.unpiper pid [] k) (sym none) (none_fed n.unpiper pid stands);
           few = omega (arith, none);
-          lines = more.gave ∙ f.silent
-              ∙ ap (λ (k : ℕ). place_lines (take k (packets_from pid (length (fed 0 events)) [])))
-              (sym none);
+          lines = more.gave ∙ f.silent ∙ rw none refl;
           is_open = more.ended 0 ∙ f.is_open;
           idle = line ∙ f.idle;
         });
       };
     }
 
-fed_on : EventsPush → (old new : Unpiper) (pid : ℕ) (bytes piece : List ℕ) (number : ℕ) →
-    ((p : ℕ) (events : List stream.UnpiperEvent) → UnpiperStandsFor old p events
-    → UnpiperStandsFor new p (events ++ Took piece ∷ [])) → Unpiped old pid bytes number
-    → Unpiped new pid (bytes ++ piece) number
+fed_on : EventsPush → (old new : Unpiper) (pid : ℕ) (bytes piece : List ℕ) (number : ℕ)
+    → Becomes old (Took piece) new → Unpiped old pid bytes number → Unpiped new pid (bytes ++ piece) number
 fed_on law old new pid bytes piece number f u = record {
   events = u.events ++ Took piece ∷ [];
   fed_are = (law u.events).fed_more piece ∙ ap (λ (l : List ℕ). l ++ piece) u.fed_are;
@@ -143,9 +144,8 @@ longer_given law pid count bytes piece few =
 
 -- The unpiper took more of what it is fed.
 unpiping_on : AcceptedFront → EventsPush → (m n : T2miLines) (all now text now_text piece left : List ℕ) (ended : Bool)
-    → ((p : ℕ) (events : List stream.UnpiperEvent) → UnpiperStandsFor m.unpiper p events
-    → UnpiperStandsFor n.unpiper p (events ++ Took piece ∷ []))
-    → n.base ≡ m.base → n.count ≡ m.count → n.line ≡ m.line → now_text ≡ text → (f : Unpiping m all text ended)
+    → Becomes m.unpiper (Took piece) n.unpiper → n.base ≡ m.base → n.count ≡ m.count → n.line ≡ m.line
+    → now_text ≡ text → (f : Unpiping m all text ended)
     → now ≡ f.front ++ ((f.bytes ++ piece) ++ drop n.from n.unit)
     → (f.bytes ++ piece) ++ drop n.from n.unit ≡ f.first ++ left → Unpiping n now now_text ended
 unpiping_on law push m n all now text now_text piece left ended took base count line same f parts begins = record {
@@ -160,8 +160,7 @@ unpiping_on law push m n all now text now_text piece left ended took base count 
   begins = begins;
   whole = f.whole;
   tells = f.tells;
-  unpiped = subst (λ (k : ℕ). Unpiped n.unpiper f.pid (f.bytes ++ piece) k) (sym count)
-      (fed_on push m.unpiper n.unpiper f.pid f.bytes piece m.count took f.unpiped);
+  unpiped = rw count (fed_on push m.unpiper n.unpiper f.pid f.bytes piece m.count took f.unpiped);
   few = (let l = longer_given law f.pid m.count f.bytes piece f.few in omega (arith, l, count));
   lines = same ∙ f.lines ∙ ap place_lines (sym (same_given law f.pid (length f.front) m.count f.bytes piece f.few))
       ∙ ap (λ (k : ℕ). place_lines (take k (packets_from f.pid (length f.front) (f.bytes ++ piece)))) (sym count);
@@ -174,8 +173,7 @@ pub went_on : EventsTell → AcceptedFront → EventsPush → (start m n : T2miL
     → m.search ≡ Unpipes
     → n.search ≡ m.search → n.at ≡ m.at → n.base ≡ m.base → n.unit ≡ m.unit → n.from ≡ m.from + k → n.count ≡ m.count
     → n.line ≡ m.line
-    → ((p : ℕ) (events : List stream.UnpiperEvent) → UnpiperStandsFor m.unpiper p events
-    → UnpiperStandsFor n.unpiper p (events ++ Took (take k (drop m.from m.unit)) ∷ [])) → Comes start events m
+    → Becomes m.unpiper (Took (take k (drop m.from m.unit))) n.unpiper → Comes start events m
     → Comes start (events ++ Gave [] ∷ []) n
 went_on law front push start m n events k unpipes same at base unit from count line took c =
     let f = found_in m _ _ _ Unpipes unpipes c.shown.found in
@@ -191,8 +189,7 @@ went_on law front push start m n events k unpipes same at base unit from count l
       shown = record {
         place = at ∙ c.shown.place ∙ ap length (sym (more.fed 0));
         found = found_as n _ _ _ Unpipes (same ∙ unpipes)
-            (subst (λ (b : Bool). Unpiping n (fed 0 (events ++ Gave [] ∷ [])) (gave (events ++ Gave [] ∷ [])) b)
-            (sym (more.ended 0))
+            (rw (more.ended 0)
             (unpiping_on front push m n (fed 0 events) (fed 0 (events ++ Gave [] ∷ [])) (gave events)
             (gave (events ++ Gave [] ∷ [])) (take k held) f.more (has_ended 0 events) took base count line
             (more.gave ∙ append-nil (gave events)) f
@@ -204,9 +201,7 @@ went_on law front push start m n events k unpipes same at base unit from count l
 pub unpiped : EventsTell → AcceptedFront → EventsPush → (start m n : T2miLines) (events : List Event) (piece : List ℕ)
     → m.search ≡ Unpipes → drop m.from m.unit ≡ [] → n.search ≡ m.search → n.at ≡ m.at + length piece → n.base ≡ m.base
     → n.unit ≡ m.unit → n.from ≡ m.from
-    → n.count ≡ m.count → n.line ≡ m.line → ((p : ℕ) (events : List stream.UnpiperEvent)
-    → UnpiperStandsFor m.unpiper p events
-    → UnpiperStandsFor n.unpiper p (events ++ Took piece ∷ [])) → Comes start events m
+    → n.count ≡ m.count → n.line ≡ m.line → Becomes m.unpiper (Took piece) n.unpiper → Comes start events m
     → Comes start (events ++ Fed 0 piece ∷ []) n
 unpiped law front push start m n events piece unpipes none same at base unit from count line took c =
     let f = found_in m _ _ _ Unpipes unpipes c.shown.found in
@@ -223,8 +218,7 @@ unpiped law front push start m n events piece unpipes none same at base unit fro
         place = (let p = c.shown.place in let l = ap length more.here in let k = length-append (fed 0 events) piece in
             omega (arith, at, p, l, k));
         found = found_as n _ _ _ Unpipes (same ∙ unpipes)
-            (subst (λ (b : Bool). Unpiping n (fed 0 (events ++ Fed 0 piece ∷ [])) (gave (events ++ Fed 0 piece ∷ [])) b)
-            (sym (more.ended 0))
+            (rw (more.ended 0)
             (unpiping_on front push m n (fed 0 events) (fed 0 (events ++ Fed 0 piece ∷ [])) (gave events)
             (gave (events ++ Fed 0 piece ∷ [])) piece (f.more ++ piece) (has_ended 0 events) took base
             count line more.gave f

@@ -1,15 +1,13 @@
 -- What was told of the lines of packets in units is what a file of units asks for.
 use Rattle.std.proofs.Common.{◌≡◌, ◌≢◌, ℕ, ◌-◌, Bool, true, false, cond, List, [], ◌∷◌, ◌++◌, length, take, drop, map}
-use Rattle.std.proofs.Common.{refl, ap, sym, subst, ◌∙◌, inl, inr, arith, append_assoc, append-nil}
+use Rattle.std.proofs.Common.{refl, ap, sym, ◌∙◌, inl, inr, arith, append_assoc, append-nil}
 use Rattle.std.specs.Prelude.{◌⊎◌, nat_lt, IfSome, Result, Ok, Err}
 use Rattle.std.proofs.lemmas.List.{take-append-drop, map-append}
 use Rattle.std.proofs.lemmas.List.Concat.{flat_map-append}
-use Rattle.std.proofs.lemmas.Option.{IfSome_then}
-use Rattle.terms.proofs.OptionLemmas.{if_any, if_both}
-use Rattle.show_run.proofs.ShowLemmas.{shows_none}
-use Rattle.ports.specs.Desk.{State, Held, bytes_of}
+use Rattle.terms.proofs.OptionLemmas.{if_both}
+use Rattle.show_run.proofs.ToldLemmas.{first_said, shows_all, shows_fault, shows_long, shows_none, shows_unwritten}
+use Rattle.ports.specs.Desk.{State, bytes_of}
 use Rattle.file_run.specs.Reading.{longest_file}
-use Rattle.file_run.proofs.SayLemmas.{grows_same}
 use Rattle.file_run.specs.declared.input.TheConstants.{BUFFER}
 use Rattle.ts_packet.specs.declared.sizes.TheConstants.{SIZE}
 use Rattle.t2mi_stream.specs.Accepted.{AcceptedPacket}
@@ -20,7 +18,7 @@ use Rattle.t2mi_stream.specs.Units.{accepted_of}
 use Rattle.t2mi_stream.specs.UnpiperStandsFor.{is_ready}
 use Rattle.file_run.specs.Events.{Event, fed, has_ended, gave}
 use Rattle.file_run.specs.FileRun.{IsFed}
-use Rattle.file_run.specs.Steps.{Needs, FallsShort}
+use Rattle.file_run.specs.Steps.{Needs}
 use Rattle.file_run.specs.Telling.{StartsWith, Tells, TellsAll}
 use Rattle.file_run.specs.declared.machine.Step.TheVariants.{Read, Give, End}
 use Rattle.file_run.specs.declared.stop.RunFault.TheVariants.{TooLong, ReadFault, WriteFault}
@@ -35,7 +33,7 @@ use Rattle.show_run.specs.declared.stop.ShowStop.{ShowStop}
 use Rattle.show_run.specs.declared.t2mi_lines.T2miLines.{T2miLines}
 use Rattle.show_run.specs.declared.t2mi_lines.Search.{Search}
 use Rattle.show_run.specs.declared.t2mi_lines.Search.TheVariants.{Seeks, Unpipes, Finished}
-use Rattle.show_run.proofs.PacketMetLemmas.{closed_counted, opened_counted, starts_fed, count_some}
+use Rattle.show_run.proofs.PacketMetLemmas.{count_some}
 use Rattle.show_run.proofs.T2miEndLemmas.{behind_all, read_needed, read_short, short_needs}
 
 -- the lines of packets that were given are those of the first packets of the file
@@ -98,13 +96,6 @@ needs_waits Unpipes ready left line count r done = let e : Unpipes ≡ Finished 
 needs_waits Finished ready left [] count r done = r
 needs_waits Finished ready left (c ∷ line) count r done = r
 
-short_waits : (search : Search) (ready : Bool) (left : ℕ) (line : List ℕ) (count : ℕ)
-    → FallsShort (next_in search ready left line) 0 count → search ≡ Finished → ⊥
-short_waits Seeks ready left line count r done = let e : Seeks ≡ Finished = done in cc
-short_waits Unpipes ready left line count r done = let e : Unpipes ≡ Finished = done in cc
-short_waits Finished ready left [] count r done = r
-short_waits Finished ready left (c ∷ line) count r done = r
-
 -- at the end all was given
 at_end : (search : Search) (ready : Bool) (left : ℕ) (line : List ℕ) → next_in search ready left line ≡ End
     → (search ≡ Finished)
@@ -127,7 +118,7 @@ all_text : (file : List ℕ) (place : ℕ) (m : T2miLines) (events : List Event)
     → Shown m events → IsFed file place (fed 0 events) (has_ended 0 events) → gave events ≡ early
     → IsT2miText file place (Ok m.count) early []
 all_text file place m events early done none s f text =
-    let e = subst (λ (x : Search). Found x m (fed 0 events) (gave events) (has_ended 0 events)) done s.found in
+    let e = rw done at s.found in
     let same : file ≡ fed 0 events = f.parts ∙ ap (λ (l : List ℕ). fed 0 events ++ l) (f.end e.over)
     ∙ append-nil (fed 0 events) in
     let a = f.ahead in let w = f.within in let n = ap length same in (
@@ -143,18 +134,8 @@ pub t2mi_end : (start now : T2miLines) (old new : State) (name : List ℕ)
 t2mi_end start now old new name t =
     let x = t.tells in
     let end = at_end now.search (is_ready now.unpiper) (SIZE - now.from) now.line t.end in
-    record {
-      given = t.place;
-      text = gave x.early;
-      unsaid = [];
-      due = inl refl;
-      reads = (x.opened, t.short);
-      grew = x.said;
-      lines = IfSome_then old.held x.inputs
-          (λ held f. all_text (bytes_of held.files name) t.place now x.events (gave x.early) end.0 end.1 x.came.shown f
-          (x.parts ∙ append-nil (gave x.early)));
-      counts = t.counts;
-    }
+    shows_all IsT2miText (Comes start) next_of old new name now t (Ok now.count) (λ r. r) (λ r. r)
+    (λ file f text. all_text file t.place now x.events (gave x.early) end.0 end.1 x.came.shown f text)
 
 longer : (xs ys : List ℕ) → xs ≢ [] → xs ++ ys ≢ []
 longer [] ys some none = some refl
@@ -207,20 +188,15 @@ some_said : AcceptedFront → PacketsBehind → (start now : T2miLines) (old new
     → (unsaid ≡ [] → now.search ≡ Finished → ⊥)
     → IfSome old.held (λ held. AreFirstLines (t2mi_packets_in (bytes_of held.files name)) (gave x.early))
 some_said front behind start now old new name place unsaid x wants =
-    if_both old.held _ _ _ (λ held f first. go held f first x.going) x.inputs x.first
+    first_said (λ file text. AreFirstLines (t2mi_packets_in file) text) (Comes start) next_of old new name now place
+    unsaid x
+    (λ none file f. first_shown front behind file now x.events (λ done idle. absurd (wants none done)) f x.came.shown)
+    early
   where
-    go : (held : Held) → IsFed (bytes_of held.files name) place (fed 0 x.events) (has_ended 0 x.events)
-        → StartsWith (bytes_of held.files name) (fed 0 x.early) (has_ended 0 x.early) → (unsaid ≡ [])
-        ⊎ ((x.early ≡ []) ⊎ (next_of x.mid ≡ Give))
-        → AreFirstLines (t2mi_packets_in (bytes_of held.files name)) (gave x.early)
-    go held f first (inl none) =
-        subst (λ (l : List ℕ). AreFirstLines (t2mi_packets_in (bytes_of held.files name)) l)
-        (x.parts ∙ ap (λ (l : List ℕ). gave x.early ++ l) none ∙ append-nil (gave x.early))
-        (first_shown front behind (bytes_of held.files name) now x.events (λ done idle. absurd (wants none done))
-        (starts_fed (bytes_of held.files name) place (fed 0 x.events) (has_ended 0 x.events) f) x.came.shown)
-    go held f first (inr (inl none)) = none_first (t2mi_packets_in (bytes_of held.files name)) (gave x.early)
-        (ap gave none)
-    go held f first (inr (inr gives)) = first_shown front behind (bytes_of held.files name) x.mid x.early
+    early : (file : List ℕ) → StartsWith file (fed 0 x.early) (has_ended 0 x.early)
+        → (x.early ≡ []) ⊎ (next_of x.mid ≡ Give) → AreFirstLines (t2mi_packets_in file) (gave x.early)
+    early file first (inl none) = none_first (t2mi_packets_in file) (gave x.early) (ap gave none)
+    early file first (inr gives) = first_shown front behind file x.mid x.early
         (gives_waits x.mid.search (is_ready x.mid.unpiper) (SIZE - x.mid.from) x.mid.line gives) first x.met.shown
 
 -- what a machine that needs bytes has given
@@ -241,85 +217,43 @@ t2mi_stop nothing front behind start now old new name (run.Refused why) all s = 
 t2mi_stop nothing front behind start now old new name (run.Files (TooLong input)) all s =
     let t = s.1 in
     let x = t.tells in
-    record {
-      given = longest_file;
-      text = gave x.early;
-      unsaid = [];
-      due = inl refl;
-      reads = (s.0, x.opened, refl);
-      grew = x.said;
-      lines = if_both old.held _ _ _ (λ held f first. (
-        (let w = f.within in w),
-        (
-          f.within,
-          sym (x.parts ∙ append-nil (gave x.early)) ∙ all x.events _ x.came t.wants
-              ∙ ap place_lines (sym (read_needed nothing behind start now x.events (bytes_of held.files name)
-              x.came f t.wants)),
-        ),
-        first,
-      )) x.inputs
-          (some_said front behind start now old new name longest_file [] x
-          (λ none. needs_waits now.search (is_ready now.unpiper) (SIZE - now.from) now.line _ t.wants));
-      counts = t.counts;
-    }
-t2mi_stop nothing front behind start now old new name (run.Files (ReadFault input)) all s = elim s.1 [
-  | inl none ↦ record {
-    given = 0;
-    text = [];
-    unsaid = [];
-    due = inl refl;
-    reads = (s.0, inl (none.1, refl));
-    grew = grows_same old.said new.said none.1.said;
-    lines = if_any old.held _
-        (λ held. (
-          (
-            omega arith,
-            no_text nothing,
-            omega arith,
-          ),
-          none_first (t2mi_packets_in (bytes_of held.files name)) [] refl,
-        ));
-    counts = closed_counted old new none.0;
-  }
-  | inr some ↦
-      let t = some.1 in
-      let x = t.tells in
-      record {
-        given = t.place;
-        text = gave x.early;
-        unsaid = t.unsaid;
-        due = elim t.all [ inl all ↦ inl all.0 | inr lost ↦ inr lost.1 ];
-        reads = (s.0, inr (x.opened, t.short));
-        grew = x.said;
-        lines = if_both old.held _ _ _ (λ held f first. (
-          (
-            f.within,
-            ap place_lines (read_short nothing behind start now x.events (bytes_of held.files name) t.place
-                x.came f t.wants)
-                ∙ sym (all x.events _ x.came (short_needs (next_of now) _ t.wants)) ∙ x.parts,
-            x.waits.few,
-          ),
-          first,
-        )) x.inputs (some_said front behind start now old new name t.place t.unsaid x
-            (λ none. short_waits now.search (is_ready now.unpiper) (SIZE - now.from) now.line _ t.wants));
-        counts = opened_counted old new name t.place x.opened some.0;
-      }
-]
+    shows_long IsT2miText (Comes start) next_of old new name now t input s.0
+    (if_both old.held _ _ _ (λ held f first. (
+      (let w = f.within in w),
+      (
+        f.within,
+        sym (x.parts ∙ append-nil (gave x.early)) ∙ all x.events _ x.came t.wants
+            ∙ ap place_lines (sym (read_needed nothing behind start now x.events (bytes_of held.files name)
+            x.came f t.wants)),
+      ),
+      first,
+    )) x.inputs
+    (some_said front behind start now old new name longest_file [] x
+    (λ none. needs_waits now.search (is_ready now.unpiper) (SIZE - now.from) now.line _ t.wants)))
+t2mi_stop nothing front behind start now old new name (run.Files (ReadFault input)) all s =
+    shows_fault IsT2miText (Comes start) next_of old new name now input s
+    (λ file. ((omega arith, no_text nothing, omega arith), none_first (t2mi_packets_in file) [] refl))
+    (λ t.
+    let x = t.tells in
+    if_both old.held _ _ _ (λ held f first. (
+      (
+        f.within,
+        ap place_lines (read_short nothing behind start now x.events (bytes_of held.files name) t.place
+            x.came f t.wants)
+            ∙ sym (all x.events _ x.came (short_needs (next_of now) _ t.wants)) ∙ x.parts,
+        x.waits.few,
+      ),
+      first,
+    )) x.inputs (some_said front behind start now old new name t.place t.unsaid x
+    (λ none. needs_waits now.search (is_ready now.unpiper) (SIZE - now.from) now.line _
+    (short_needs (next_of now) _ t.wants))))
 t2mi_stop nothing front behind start now old new name (run.Files WriteFault) all s =
     let x = s.1.2 in
-    record {
-      given = s.1.0;
-      text = gave x.early;
-      unsaid = [];
-      due = inl refl;
-      reads = (x.opened, s.1.4);
-      grew = x.said;
-      lines = if_both old.held _ _ _ (λ held f first. (
-        leaves front behind (bytes_of held.files name) s.1.0 now x.events (gave x.early) s.1.1 s.1.3
-            x.parts x.came.shown f,
-        first,
-      )) x.inputs (some_said front behind start now old new name s.1.0 s.1.1 x (λ none. absurd (s.1.3 none)));
-      counts = s.0;
-    }
-t2mi_stop nothing front behind start now old new name run.OutOfMemory all s = shows_none IsT2miText (λ file. refl)
-    old new name s
+    shows_unwritten IsT2miText (Comes start) next_of old new name now s
+    (if_both old.held _ _ _ (λ held f first. (
+      leaves front behind (bytes_of held.files name) s.1.0 now x.events (gave x.early) s.1.1 s.1.3
+          x.parts x.came.shown f,
+      first,
+    )) x.inputs (some_said front behind start now old new name s.1.0 s.1.1 x (λ none. absurd (s.1.3 none))))
+t2mi_stop nothing front behind start now old new name run.OutOfMemory all s =
+    shows_none IsT2miText (λ file. refl) old new name s

@@ -1,17 +1,15 @@
--- What holds of two streams that were compared, how the command must end, and that it changes nothing but standard
--- output.
+-- What holds of two streams that were compared.
 use Rattle.std.proofs.Common.{◌≡◌, Bool, true, false, ℕ, List, refl, ap, sym, ◌∙◌}
 use Rattle.std.specs.Prelude.{Result, Ok, Err}
 use Rattle.std.proofs.lemmas.Bool.{true≢false}
 use Rattle.std.proofs.lemmas.Option.{IfSome_then}
 use Rattle.terms.proofs.OptionLemmas.{if_any, none_some}
-use Rattle.ports.specs.Desk.{State, Held, bytes_of}
+use Rattle.ports.specs.Desk.{State, bytes_of}
 use Rattle.plp_config.specs.Capacity.{IsPlan}
 use Rattle.plp_config.specs.declared.config.Config.{Config}
 use Rattle.plp_config.specs.declared.moment.TheConstants.{MOST_FRAMES}
 use Rattle.stream_laws.specs.SentFrames.{run_length, run_stream, stream_bytes}
 use Rattle.stream_laws.specs.Types.{TypesFit}
-use Rattle.file_run.specs.FileRun.{file_at}
 use Rattle.file_run.specs.Work.{Ends, Aloud}
 use Rattle.file_run.specs.declared.stop.RunFault.TheVariants as run_fault
 use Rattle.file_run.specs.declared.stop.RunStop.{RunStop}
@@ -23,7 +21,6 @@ use Rattle.compare_run.specs.AnswerLaws.{NoneDiffers}
 use Rattle.compare_run.specs.Runs.{first_differing}
 use Rattle.compare_run.specs.declared.counts.CompareRan.{CompareRan}
 use Rattle.compare_run.specs.CompareRun.{compare_work}
-use Rattle.compare_run.specs.Laws.{MustRun as CompareMust, OneRun as OneComparison}
 use Rattle.compare_run.specs.declared.stop.CompareStop.{CompareStop}
 use Rattle.compare_run.specs.declared.stop.CompareStop.TheVariants as stop
 use Rattle.site_top.specs.declared.outcome.Outcome.{Outcome}
@@ -31,7 +28,6 @@ use Rattle.site_top.specs.declared.outcome.Outcome.TheVariants.{Done, Differs, N
 use Rattle.site_top.specs.declared.outcome.Outcome.TheVariants.{WriteFault, OutOfMemory}
 use Rattle.site_top.specs.CompareCommand.{DamageIsAlike, NeverDiffers}
 use Rattle.site_top.specs.Outcomes.{run_outcome, stop_outcome, compare_cause}
-use Rattle.site_top.specs.Runs.{AreShort, CompareMustEnd}
 
 -- ---- damage
 
@@ -72,17 +68,3 @@ never_differs c mid new a b result outcome law ends is = go result ends is
     go (Err (run.Files (run_fault.ReadFault input))) r is = not_so ReadFault is refl
     go (Err (run.Files run_fault.WriteFault)) r is = not_so WriteFault is refl
     go (Err run.OutOfMemory) r is = not_so OutOfMemory is refl
-
--- ---- how it must end
-
--- How it must end over a plan, if its inputs are not too long.
-abbrev pub ComparesIfShort : Held → List (List ℕ) → Config → Outcome → Type 0
-ComparesIfShort held ins c outcome = AreShort held ins → (result : Result CompareRan CompareStop)
-    × CompareMust c (file_at held ins) result
-    × (outcome ≡ run_outcome compare_cause result)
-
-pub compare_one : OneComparison → (held : Held) (ins : List (List ℕ)) (c : Config) (result outcome : Outcome)
-    → ComparesIfShort held ins c result → CompareMustEnd held ins c outcome → result ≡ outcome
-compare_one law held ins c result outcome mine must =
-    let r = mine must.0 in
-    r.2 ∙ ap (run_outcome compare_cause) (law c (file_at held ins) r.0 must.1.0 r.1 must.1.1) ∙ sym must.1.2

@@ -11,8 +11,7 @@ use Rattle.modulator.specs.StandsFor.{records_of}
 use Rattle.frame_groups.specs.Modulated.{FrameRecord}
 use Rattle.ports.specs.Counts.{Rose}
 use Rattle.ports.specs.Desk.{State, Held, SameCounts, with_name, bytes_of}
-use Rattle.plp_config.specs.Capacity.{IsPlan}
-use Rattle.plp_config.specs.Places.{IsPlace}
+use Rattle.plp_config.specs.Places.{IsPlace, HasNoPlace}
 use Rattle.plp_config.specs.declared.config.Config.{Config}
 use Rattle.plp_config.specs.declared.moment.TheConstants.{MOST_FRAMES}
 use Rattle.file_run.specs.ConfigFile.{GivesNone, GivesNoPlan}
@@ -27,23 +26,23 @@ use Rattle.file_run.specs.declared.stop.RunStop.{RunStop}
 use Rattle.file_run.specs.declared.stop.RunStop.TheVariants as run
 use Rattle.file_run.proofs.EndsLemmas.{decides}
 use Rattle.gateway_run.specs.GatewayRun.{gateway_work}
-use Rattle.gateway_run.specs.Laws.{OneRun}
+use Rattle.gateway_run.specs.Laws.{MustRun as GatewayMust}
 use Rattle.gateway_run.specs.declared.stop.GatewayRan.{GatewayRan}
 use Rattle.gateway_run.specs.declared.stop.GatewayStop.{GatewayStop}
 use Rattle.gateway_run.specs.declared.stop.GatewayStop.TheVariants as gateway
-use Rattle.modulate_run.specs.Laws.{OneRun as OneModulation}
+use Rattle.modulate_run.specs.Laws.{MustRun as ModulateMust}
 use Rattle.modulate_run.specs.ModulateRun.{AreEarly, HasEarly, modulate_work}
 use Rattle.modulate_run.specs.declared.stop.ModulateRan.{ModulateRan}
 use Rattle.modulate_run.specs.declared.stop.ModulateStop.{ModulateStop}
 use Rattle.modulate_run.specs.declared.stop.ModulateStop.TheVariants as modulate
 use Rattle.common_plp.specs.Inputs.{input_count}
-use Rattle.common_plp.specs.Sharing.{Sharing, joined_with, IsPlaceBy}
-use Rattle.receive_run.specs.JoinedLaws.{OneRun as OneReception}
+use Rattle.common_plp.specs.Sharing.{Sharing, joined_with, IsPlaceBy, HasNoPlaceBy}
+use Rattle.receive_run.specs.JoinedLaws.{MustRun as ReceiveMust}
 use Rattle.receive_run.specs.JoinedRun.{receive_work}
 use Rattle.receive_run.specs.declared.stop.ReceiveRan.{ReceiveRan}
 use Rattle.receive_run.specs.declared.stop.ReceiveStop.{ReceiveStop}
 use Rattle.receive_run.specs.declared.stop.ReceiveStop.TheVariants as receive
-use Rattle.merge_run.specs.Laws.{OneRun as OneMerging}
+use Rattle.merge_run.specs.Laws.{MustRun as MergeMust}
 use Rattle.merge_run.specs.MergeRun.{merge_work}
 use Rattle.feed_merge.specs.Fed.{names_of}
 use Rattle.merge_run.specs.declared.stop.MergeRan.{MergeRan}
@@ -53,13 +52,13 @@ use Rattle.mend_run.specs.MendRun.{mend_work}
 use Rattle.mend_run.specs.declared.stop.MendRan.{MendRan}
 use Rattle.mend_run.specs.declared.stop.MendStop.{MendStop}
 use Rattle.mend_run.specs.declared.stop.MendStop.TheVariants as mend
-use Rattle.swap_run.specs.Laws.{OneRun as OneSwapping}
+use Rattle.swap_run.specs.Laws.{MustRun as SwapMust}
 use Rattle.swap_run.specs.SwapRun.{swap_work}
 use Rattle.swap_run.specs.declared.stop.SwapRan.{SwapRan}
 use Rattle.swap_run.specs.declared.stop.SwapStop.{SwapStop}
 use Rattle.swap_run.specs.declared.stop.SwapStop.TheVariants as swap
 use Rattle.compare_run.specs.CompareRun.{compare_work}
-use Rattle.compare_run.specs.Laws.{OneRun as OneComparison}
+use Rattle.compare_run.specs.Laws.{MustRun as CompareMust}
 use Rattle.compare_run.specs.declared.stop.CompareStop.{CompareStop}
 use Rattle.compare_run.specs.declared.stop.CompareStop.TheVariants as compare
 use Rattle.compare_run.specs.declared.counts.CompareRan.{CompareRan}
@@ -76,12 +75,12 @@ use Rattle.site_top.specs.Commands.{Receive, Merge, Mend, Swap, Trial, Compare}
 use Rattle.site_top.specs.CompareCommand as compares
 use Rattle.site_top.specs.Outcomes.{compare_cause}
 use Rattle.site_top.specs.Runs.{CompareMustEnd}
-use Rattle.site_top.proofs.CompareLemmas.{ComparesIfShort, compare_one}
 use Rattle.site_top.specs.ConfigCommands.{ShowsConfig, Plans}
 use Rattle.trial_run.specs.declared.stop.TrialStop.TheVariants as trial
 use Rattle.site_top.specs.GatewayCommand as gateways
 use Rattle.site_top.specs.Laws.{OneEnding, Completeness}
 use Rattle.site_top.specs.MendCommand as mends
+use Rattle.site_top.specs.MendCommand.{MustMend}
 use Rattle.site_top.specs.MergeCommand as merges
 use Rattle.site_top.specs.ModulateCommand as modulates
 use Rattle.site_top.specs.Outcomes.{run_outcome, stop_outcome, config_outcome, gateway_cause, modulate_cause}
@@ -90,14 +89,12 @@ use Rattle.site_top.specs.PlanCommand.{RunsAndTells, ByPlan}
 use Rattle.site_top.specs.ReceiveCommand.{receive_line}
 use Rattle.site_top.specs.Reception as receives
 use Rattle.site_top.specs.Runs.{PlanMustEnd, ModulateMustEnd, ReceiveMustEnd, MergeMustEnd, OverPlan, MustEnd}
-use Rattle.site_top.specs.Runs.{IsComplete, MendMustEnd, SwapMustEnd}
-use Rattle.site_top.proofs.MendLemmas.{MendsIfShort, mend_one}
+use Rattle.site_top.specs.Runs.{IsComplete, MendMustEnd, SwapMustEnd, AreShort}
 use Rattle.site_top.specs.Saying.{Tells}
 use Rattle.site_top.specs.SwapCommand as swaps
 use Rattle.site_top.specs.TrialCommand.{Tries}
-use Rattle.site_top.proofs.EndingLemmas.{GatewayIfShort, gateway_one, ModulatesIfShort, modulate_one, ReceivesIfShort}
-use Rattle.site_top.proofs.EndingLemmas.{receive_one}
-use Rattle.site_top.proofs.EndingLemmas.{MergesIfShort, merge_one, SwapsIfShort, swap_one, over_one, unplanned_so}
+use Rattle.site_top.proofs.EndingLemmas.{EndsAs, AtPlace, not_both, same_plan}
+use Rattle.site_top.proofs.PlaceLemmas.{never_by}
 
 -- How a run came to its outcome: by its files, if something is so of what must be; or by a fault, or want of memory.
 abbrev By : (State → State → Outcome → Type 0)
@@ -252,8 +249,6 @@ before_named : (config : List ℕ) (old mid : Option Held) (P : Held → Type 0)
 before_named config None mid P e p = tt
 before_named config (Some h) mid P e p = subst (λ (o : Option Held). IfSome o P) e p
 
--- ---- a run by the plan of CONFIG
-
 -- the same counts before
 by_before : (old mid new : State) (outcome : Outcome) → SameCounts old mid → By mid new outcome → By old new outcome
 by_before old mid new outcome same by =
@@ -262,143 +257,145 @@ by_before old mid new outcome same by =
     (λ o. ⊎_elim (λ w. inr (inl (subst (λ counts. Rose counts.writes new.counts.writes) same w))) (λ m. inr (inr m)) o)
     by
 
--- A run stops or comes to its end, and its line is told: its outcome is as something must be, or a call failed.
-ways : {R E : Type 0} (Ends : State → State → R → Type 0) (Stops : State → State → RunStop E → Type 0) (line : R
-    → List ℕ)
-    (cause : E → Outcome) (Must : State → Outcome → Type 0)
-    → ((mid new : State) (stop : RunStop E) → Stops mid new stop → Must mid (stop_outcome cause stop)
-    ⊎ By mid new (stop_outcome cause stop))
-    → ((mid after : State) (ran : R) → Ends mid after ran → Must mid Done × SameCounts mid after)
-    → (old mid new : State) (outcome : Outcome) → SameCounts old mid
-    → RunsAndTells Ends Stops line cause mid new outcome
-    → Must mid outcome ⊎ By old new outcome
-ways Ends Stops line cause Must stops ends old mid new outcome same (inl (stop, s, is)) =
-    ⊎_elim (λ m. inl (subst (Must mid) (sym is) m))
-    (λ by. inr (by_before old mid new outcome same (subst (By mid new) (sym is) by)))
-    (stops mid new stop s)
-ways Ends Stops line cause Must stops ends old mid new outcome same (inr (ran, after, e, tells)) =
-    let x = ends mid after ran e in
-    ⊎_elim (λ (done : outcome ≡ Done). inl (subst (Must mid) (sym done) x.0)) inr
-    (told old after new (line ran) outcome (x.1 ∙ same) tells)
+-- ---- a run by the plan of CONFIG
 
--- A run that does a work ended as something must be of the files of the desk, or a call failed: if it must be by what
--- its work is at the end, and by a file that is too long.
-asked : {R E : Type 0} (work : Work R E) (sink : Sink) (ins : List (List ℕ)) (cause : E → Outcome) (Must : Held
-    → Outcome → Type 0)
-    → ((h : Held) (result : Result R E) (places bytes : List ℕ) → IsRightAtEnd work (file_at h ins) places bytes result
-    → Must h (run_outcome cause result))
-    → ((h : Held) (input : ℕ) (outcome : Outcome) → input < length ins → longest_file ≤ length (file_at h ins input)
-    → Must h outcome)
-    → (mid new : State) (result : Result R (RunStop E)) → RunEnds work mid new sink ins result
-    → IfSome mid.held (λ h. Must h (run_outcome (stop_outcome cause) result))
-    ⊎ By mid new (run_outcome (stop_outcome cause) result)
-asked work sink ins cause Must right long mid new (Ok ran) ends =
-    let why = decides work mid new sink ins (Ok ran) ends in
-    inl (IfSome_then mid.held why.1 (λ h w. right h (Ok ran) w.0 w.1 w.2))
-asked work sink ins cause Must right long mid new (Err (run.Refused stop)) ends =
-    let why = decides work mid new sink ins (Err (run.Refused stop)) ends in
-    inl (IfSome_then mid.held why.1 (λ h w. right h (Err stop) w.0 w.1 w.2))
-asked work sink ins cause Must right long mid new (Err (run.Files (run_fault.TooLong input))) ends =
-    let why = decides work mid new sink ins (Err (run.Files (run_fault.TooLong input))) ends in
-    inl (IfSome_then mid.held why.1 (λ h most. long h input _ why.0 most))
-asked work sink ins cause Must right long mid new (Err (run.Files (run_fault.ReadFault input))) ends =
-    inr (inl ends.0.rose)
-asked work sink ins cause Must right long mid new (Err (run.Files run_fault.WriteFault)) ends = inr
-    (inr (inl ends.0.rose))
-asked work sink ins cause Must right long mid new (Err run.OutOfMemory) ends = inr (inr (inr refl))
-
-asked_at_end : {R E : Type 0} (work : Work R E) (sink : Sink) (ins : List (List ℕ)) (cause : E → Outcome) (Must : Held
-    → Outcome → Type 0)
-    → ((h : Held) (result : Result R E) (places bytes : List ℕ) → IsRightAtEnd work (file_at h ins) places bytes result
-    → Must h (run_outcome cause result))
-    → (mid new : State) (ran : R) → RunEnds work mid new sink ins (Ok ran) → IfSome mid.held (λ h. Must h Done)
-    × SameCounts mid new
-asked_at_end work sink ins cause Must right mid new ran ends =
-    let why = decides work mid new sink ins (Ok ran) ends in
-    (IfSome_then mid.held why.1 (λ h w. right h (Ok ran) w.0 w.1 w.2), why.0)
+-- As an outcome that must be, this one must be.
+abbrev IsEnd : (Outcome → Type 0) → Outcome → Type 0
+IsEnd Must result = (outcome : Outcome) → Must outcome → Must result
 
 -- A command by the plan of CONFIG is complete if what follows is what must be over the plan.
-by_plan : OnePlan → (command : Command) (config : List ℕ) (Follows : Config → State → State → Outcome → Type 0)
-    (Mine Must : Held → Config → Outcome → Type 0)
+by_plan : OneEnding → OnePlan → (command : Command) (config : List ℕ)
+    (Follows : Config → State → State → Outcome → Type 0) (Must : Held → Config → Outcome → Type 0)
     → ((held : Held) (outcome : Outcome) → MustEnd command held outcome
     → OverPlan (bytes_of held.files config) (Must held) outcome)
-    → ((held : Held) (c : Config) (outcome : Outcome) → Mine (with_name config held) c outcome → Mine held c outcome)
-    → ((held : Held) (c : Config) (result outcome : Outcome) → IsPlan c → Mine held c result → Must held c outcome
-    → result ≡ outcome)
+    → ((held : Held) (outcome : Outcome) → OverPlan (bytes_of held.files config) (Must held) outcome
+    → MustEnd command held outcome)
+    → ((held : Held) (c : Config) (outcome : Outcome) → IsEnd (Must (with_name config held) c) outcome
+    → IsEnd (Must held c) outcome)
     → ((c : Config) (old mid new : State) (result : Outcome) → SameCounts old mid → Follows c mid new result
-    → IfSome mid.held (λ h. Mine h c result) ⊎ By old new result)
+    → IfSome mid.held (λ h. IsEnd (Must h c) result) ⊎ By old new result)
     → (old new : State) (result : Outcome) → ByPlan old new config Follows result → IsComplete command old new result
-by_plan one command config Follows Mine Must must named so follows old new result (inl (stop, none, is)) =
+by_plan law one command config Follows Must over back named follows old new result (inl (stop, none, is)) =
     ⊎_elim
-    (λ s. IfSome_then old.held s (λ held x. λ outcome m r w.
-    inl (unplanned_so one (bytes_of held.files config) (Must held) stop result outcome x is (must held outcome m))))
+    (λ s. decided law command old new result
+    (IfSome_then old.held s (λ held x. λ outcome must. back held result (inl (stop, x, is)))))
     (λ by. failed command old new result (subst (By old new) (sym is) by))
     (no_plan old new config stop none)
-by_plan one command config Follows Mine Must must named so follows old new result (inr (c, mid, gives, plan, f)) =
+by_plan law one command config Follows Must over back named follows old new result (inr (c, mid, gives, plan, f)) =
     ⊎_elim
-    (λ w. if_both old.held _ _ _ (λ held x m. λ outcome e r g.
-    inl (over_one one (bytes_of held.files config) (Must held) c result outcome (x, plan)
-    (λ y. so held c result outcome plan (named held c result m) y) (must held outcome e)))
-    gives.spells (before_named config old.held mid.held _ gives.reads.opened.held w))
+    (λ w. decided law command old new result (if_both old.held _ _ _ (λ held x m. λ outcome must.
+    back held result (go held result (x, plan) (named held c result m) outcome (over held outcome must)))
+    gives.spells (before_named config old.held mid.held _ gives.reads.opened.held w)))
     (failed command old new result)
     (follows c old mid new result gives.reads.counts f)
+  where
+    go : (held : Held) (result : Outcome) → GivesPlan (bytes_of held.files config) (Ok c) → IsEnd (Must held c) result
+        → IsEnd (OverPlan (bytes_of held.files config) (Must held)) result
+    go held result gives end outcome (inl (stop, none, is)) =
+        absurd (not_both one (bytes_of held.files config) stop c none gives)
+    go held result gives end outcome (inr (d, given, must)) =
+        let same = same_plan one (bytes_of held.files config) d c given gives in
+        inr (c, gives, end outcome (subst (λ (x : Config). Must held x outcome) same must))
 
--- ---- `gateway`
+-- A run that does a work, by what must be of it, and of the command: if this is so, no input is too long, and it must
+-- be as the run must.
+module _ {R E : Type 0} (work : Work R E) (sink : Sink) (ins : List (List ℕ)) (cause : E → Outcome)
+    (MustRun : Held → Result R E → Type 0) (Must : Held → Outcome → Type 0)
+    (right : (h : Held) (result : Result R E) (places bytes : List ℕ)
+    → IsRightAtEnd work (file_at h ins) places bytes result → MustRun h result)
+    (so : (h : Held) (outcome : Outcome) → Must h outcome → AreShort h ins
+    × ((result : Result R E) → MustRun h result → Must h (run_outcome cause result))) where
+  -- It ended as it must, by its work at the end and as no file is too long; or a call failed.
+  asked : (mid new : State) (result : Result R (RunStop E)) → RunEnds work mid new sink ins result
+      → IfSome mid.held (λ h. IsEnd (Must h) (run_outcome (stop_outcome cause) result))
+      ⊎ By mid new (run_outcome (stop_outcome cause) result)
+  asked mid new (Ok ran) ends =
+      let why = decides work mid new sink ins (Ok ran) ends in
+      inl (IfSome_then mid.held why.1 (λ h w. λ outcome must. (so h outcome must).1 (Ok ran)
+      (right h (Ok ran) w.0 w.1 w.2)))
+  asked mid new (Err (run.Refused stop)) ends =
+      let why = decides work mid new sink ins (Err (run.Refused stop)) ends in
+      inl (IfSome_then mid.held why.1 (λ h w. λ outcome must. (so h outcome must).1 (Err stop)
+      (right h (Err stop) w.0 w.1 w.2)))
+  asked mid new (Err (run.Files (run_fault.TooLong input))) ends =
+      let why = decides work mid new sink ins (Err (run.Files (run_fault.TooLong input))) ends in
+      inl (IfSome_then mid.held why.1 (λ h most. λ outcome must. let few = (so h outcome must).0 input why.0 in
+      absurd (omega (arith, most, few))))
+  asked mid new (Err (run.Files (run_fault.ReadFault input))) ends = inr (inl ends.0.rose)
+  asked mid new (Err (run.Files run_fault.WriteFault)) ends = inr (inr (inl ends.0.rose))
+  asked mid new (Err run.OutOfMemory) ends = inr (inr (inr refl))
 
-abbrev GatewayMust : Sharing → List (List ℕ) → Config → State → Outcome → Type 0
-GatewayMust sharing ins c mid outcome = IfSome mid.held (λ h. GatewayIfShort sharing h ins c outcome)
+  -- So it is with the counts of before.
+  asked_so : (old mid new : State) (result : Result R (RunStop E)) (outcome : Outcome) → SameCounts old mid
+      → RunEnds work mid new sink ins result → outcome ≡ run_outcome (stop_outcome cause) result
+      → IfSome mid.held (λ h. IsEnd (Must h) outcome) ⊎ By old new outcome
+  asked_so old mid new result outcome same ends is =
+      ⊎_elim (λ m. inl (subst (λ (o : Outcome). IfSome mid.held (λ h. IsEnd (Must h) o)) (sym is) m))
+      (λ by. inr (by_before old mid new outcome same (subst (By mid new) (sym is) by)))
+      (asked mid new result ends)
 
-gateway_ran : (sharing : Sharing) (ins : List (List ℕ)) (c : Config) → length ins ≡ input_count sharing c → (h : Held)
+  -- A run stops or comes to its end, and its line is told.
+  ways : (Ends : State → State → R → Type 0) (Stops : State → State → RunStop E → Type 0) (line : R → List ℕ)
+      → ((a b : State) (stop : RunStop E) → Stops a b stop → RunEnds work a b sink ins (Err stop))
+      → ((a b : State) (ran : R) → Ends a b ran → RunEnds work a b sink ins (Ok ran))
+      → (old mid new : State) (outcome : Outcome) → SameCounts old mid
+      → RunsAndTells Ends Stops line cause mid new outcome
+      → IfSome mid.held (λ h. IsEnd (Must h) outcome) ⊎ By old new outcome
+  ways Ends Stops line stopped ended old mid new outcome same (inl (stop, s, is)) =
+      asked_so old mid new (Err stop) outcome same (stopped mid new stop s) is
+  ways Ends Stops line stopped ended old mid new outcome same (inr (ran, after, e, tells)) =
+      let ends = ended mid after ran e in
+      let why = decides work mid after sink ins (Ok ran) ends in
+      ⊎_elim (λ (done : outcome ≡ Done). inl (subst (λ (o : Outcome). IfSome mid.held (λ h. IsEnd (Must h) o))
+      (sym done) (IfSome_then mid.held why.1 (λ h w. λ other must. (so h other must).1 (Ok ran)
+      (right h (Ok ran) w.0 w.1 w.2))))) inr
+      (told old after new (line ran) outcome (why.0 ∙ same) tells)
+
+-- if it has a place
+placed : {R E : Type 0} (cause : E → Outcome) (h : Held) (ins : List (List ℕ)) (id : ℕ) (Never : Type 0)
+    (Place : ℕ → Type 0) (Short : Type 0) (MustRun : ℕ → Result R E → Type 0)
+    → (Never → (plp : ℕ) → Place plp → ⊥) → (Short → AreShort h ins) → (plp : ℕ) → Place plp → (outcome : Outcome)
+    → AtPlace id Never Place Short (λ k. EndsAs cause (MustRun k)) outcome → AreShort h ins
+    × ((result : Result R E) → MustRun plp result
+    → AtPlace id Never Place Short (λ k. EndsAs cause (MustRun k)) (run_outcome cause result))
+placed cause h ins id Never Place Short MustRun never shorts plp at outcome (inl none) = absurd (never none.0 plp at)
+placed cause h ins id Never Place Short MustRun never shorts plp at outcome (inr (other, there, short, must)) =
+    (shorts short, λ result m. inr (plp, at, short, (result, m, refl)))
+
+-- one input
+one_short : (h : Held) (file : List ℕ) → length (bytes_of h.files file) < longest_file → AreShort h (file ∷ [])
+one_short h file short zero lt = short
+one_short h file short (suc input) lt = absurd (omega (arith, lt))
+
+-- ---- what each run tells at its end
+
+gateway_ran : (sharing : Sharing) (ins : List (List ℕ)) (c : Config) (h : Held)
     (result : Result GatewayRan GatewayStop) (places bytes : List ℕ)
     → IsRightAtEnd (gateway_work sharing c) (file_at h ins) places bytes result
-    → GatewayIfShort sharing h ins c (run_outcome gateway_cause result)
-gateway_ran sharing ins c count h (Ok ran) places bytes all =
-    let early = subst (λ (n : ℕ). n ≤ MOST_FRAMES) all.frames_are all.early in
-    inr (count, λ short. (Ok ran, (all.whole, all.frames_are, all.units_are, early), refl))
-gateway_ran sharing ins c count h (Err (gateway.Bad input packet)) places bytes bad =
-    inr (count, λ short. (Err (gateway.Bad input packet), (bad.frame, bad.meets, bad.early), refl))
-gateway_ran sharing ins c count h (Err gateway.TooManyFrames) places bytes (has, begins) =
-    inr (count, λ short. (Err gateway.TooManyFrames, has, refl))
+    → GatewayMust sharing c (file_at h ins) result
+gateway_ran sharing ins c h (Ok ran) places bytes all =
+    (all.whole, all.frames_are, all.units_are, subst (λ (n : ℕ). n ≤ MOST_FRAMES) all.frames_are all.early)
+gateway_ran sharing ins c h (Err (gateway.Bad input packet)) places bytes bad = (bad.frame, bad.meets, bad.early)
+gateway_ran sharing ins c h (Err gateway.TooManyFrames) places bytes (has, begins) = has
 
-gateway_long : (sharing : Sharing) (ins : List (List ℕ)) (c : Config) → length ins ≡ input_count sharing c
-    → (h : Held) (input : ℕ)
-    (outcome : Outcome) → input < length ins → longest_file ≤ length (file_at h ins input)
-    → GatewayIfShort sharing h ins c outcome
-gateway_long sharing ins c count h input outcome lt most =
-    inr (count, λ short. let few = short input lt in absurd (omega (arith, most, few)))
+counted_so : (sharing : Sharing) (ins : List (List ℕ)) (c : Config) → length ins ≡ input_count sharing c → (h : Held)
+    (outcome : Outcome) → PlanMustEnd sharing h ins c outcome → AreShort h ins
+    × ((result : Result GatewayRan GatewayStop) → GatewayMust sharing c (file_at h ins) result
+    → PlanMustEnd sharing h ins c (run_outcome gateway_cause result))
+counted_so sharing ins c count h outcome (inl other) = absurd (other.0 count)
+counted_so sharing ins c count h outcome (inr (so, short, must)) =
+    (short, λ result m. inr (count, short, (result, m, refl)))
 
 gateway_follows : (sharing : Sharing) (out : List ℕ) (ins : List (List ℕ)) (c : Config) (old mid new : State)
-    (result : Outcome)
-    → SameCounts old mid → gateways.Follows sharing out ins c mid new result → GatewayMust sharing ins c mid result
-    ⊎ By old new result
-gateway_follows sharing out ins c old mid new result same (inl (stays, other)) = inl
-    (if_any mid.held _ (λ h. inl other))
+    (result : Outcome) → SameCounts old mid → gateways.Follows sharing out ins c mid new result
+    → IfSome mid.held (λ h. IsEnd (PlanMustEnd sharing h ins c) result) ⊎ By old new result
+gateway_follows sharing out ins c old mid new result same (inl (stays, other)) =
+    inl (if_any mid.held _ (λ h. λ outcome must. inl other))
 gateway_follows sharing out ins c old mid new result same (inr (count, runs)) =
-    let work = gateway_work sharing c in
-    let must = λ (h : Held). GatewayIfShort sharing h ins c in
-    ways (gateways.Ends sharing out ins c) (gateways.StopsSo sharing out ins c) gateways.gateway_line gateway_cause
-    (GatewayMust sharing ins c)
-    (λ x y stop e. asked work (Into out) ins gateway_cause must (gateway_ran sharing ins c count)
-    (gateway_long sharing ins c count) x y
-    (Err stop) e)
-    (λ x y ran e. asked_at_end work (Into out) ins gateway_cause must (gateway_ran sharing ins c count) x y ran e)
-    old mid new result same runs
-
-gateway_so : OnePlan → OneRun → (sharing : Sharing) (old new : State) (config out : List ℕ) (ins : List (List ℕ))
-    (result : Outcome)
-    → gateways.Gateways sharing old new config out ins result → IsComplete (Gateway sharing config out ins)
-    old new result
-gateway_so one run sharing old new config out ins result does =
-    by_plan one (Gateway sharing config out ins) config (gateways.Follows sharing out ins)
-    (λ held. GatewayIfShort sharing held ins)
-    (λ held. PlanMustEnd sharing held ins) (λ held outcome m. m) (λ held c outcome m. m)
-    (λ held c mine outcome plan. gateway_one run sharing held ins c mine outcome)
-    (gateway_follows sharing out ins) old new result does
-
--- ---- `modulate`
-
-abbrev ModulationMust : List ℕ → Config → State → Outcome → Type 0
-ModulationMust file c mid outcome = IfSome mid.held (λ h. ModulatesIfShort (bytes_of h.files file) c outcome)
+    ways (gateway_work sharing c) (Into out) ins gateway_cause (λ h. GatewayMust sharing c (file_at h ins))
+    (λ h. PlanMustEnd sharing h ins c) (gateway_ran sharing ins c) (counted_so sharing ins c count)
+    (gateways.Ends sharing out ins c) (gateways.StopsSo sharing out ins c) gateways.gateway_line
+    (λ a b stop s. s) (λ a b ran e. e) old mid new result same runs
 
 not_early : (c : Config) (file bytes : List ℕ) → HasEarly c file bytes → ¬ (AreEarly (records_of c file))
 not_early c file bytes h all =
@@ -412,244 +409,75 @@ not_early c file bytes h all =
 modulated_so : (file : List ℕ) (c : Config) (h : Held) (result : Result ModulateRan ModulateStop)
     (places bytes : List ℕ)
     → IsRightAtEnd (modulate_work c) (file_at h (file ∷ [])) places bytes result
-    → ModulatesIfShort (bytes_of h.files file) c (run_outcome modulate_cause result)
-modulated_so file c h (Ok ran) places bytes (whole, all) = λ short. (Ok ran, (all.some, all.early, all.ran_is), refl)
-modulated_so file c h (Err modulate.NoSuperframe) places bytes (whole, has) = λ short.
-    (Err modulate.NoSuperframe, has.none, refl)
-modulated_so file c h (Err modulate.TooManyFrames) places bytes early =
-    λ short. (Err modulate.TooManyFrames, not_early c (bytes_of h.files file) bytes early, refl)
+    → ModulateMust c (bytes_of h.files file) result
+modulated_so file c h (Ok ran) places bytes (whole, all) = (all.some, all.early, all.ran_is)
+modulated_so file c h (Err modulate.NoSuperframe) places bytes (whole, has) = has.none
+modulated_so file c h (Err modulate.TooManyFrames) places bytes early = not_early c (bytes_of h.files file) bytes early
 
-modulated_long : (file : List ℕ) (c : Config) (h : Held) (input : ℕ) (outcome : Outcome) → input < 1
-    → longest_file ≤ length (file_at h (file ∷ []) input) → ModulatesIfShort (bytes_of h.files file) c outcome
-modulated_long file c h zero outcome lt most = λ short. absurd (omega (arith, most, short))
-modulated_long file c h (suc input) outcome lt most = absurd (omega (arith, lt))
-
-modulate_so : OnePlan → OneModulation → (old new : State) (config file out : List ℕ) (result : Outcome)
-    → modulates.Modulates old new config file out result → IsComplete (Modulate config file out) old new result
-modulate_so one run old new config file out result does =
-    by_plan one (Modulate config file out) config (modulates.Follows file out)
-    (λ held. ModulatesIfShort (bytes_of held.files file))
-    (λ held. ModulateMustEnd (bytes_of held.files file)) (λ held outcome m. m) (λ held c outcome m. m)
-    (λ held c mine outcome plan. modulate_one run (bytes_of held.files file) c mine outcome)
-    (λ c old mid new result same runs.
-    let must = λ (h : Held). ModulatesIfShort (bytes_of h.files file) c in
-    ways (modulates.Ends file out c) (modulates.StopsSo file out c) modulates.modulate_line modulate_cause
-    (ModulationMust file c)
-    (λ x y stop e. asked (modulate_work c) (Into out) (file ∷ []) modulate_cause must (modulated_so file c)
-    (modulated_long file c) x y
-    (Err stop) e.0)
-    (λ x y ran e. asked_at_end (modulate_work c) (Into out) (file ∷ []) modulate_cause must (modulated_so file c)
-    x y ran e.0)
-    old mid new result same runs)
-    old new result does
-
--- ---- `receive`
-
-abbrev ReceptionMust : Sharing → ℕ → List ℕ → Config → State → Outcome → Type 0
-ReceptionMust sharing id file c mid outcome = IfSome mid.held (λ h. ReceivesIfShort sharing (bytes_of h.files file)
-    id c outcome)
-
-received_so : (sharing : Sharing) (id : ℕ) (file : List ℕ) (c : Config) (plp : ℕ) → IsPlaceBy sharing c id plp
-    → (h : Held)
+received_so : (joins : Option ℕ) (file : List ℕ) (c : Config) (plp : ℕ) (h : Held)
     (result : Result ReceiveRan ReceiveStop) (places bytes : List ℕ)
-    → IsRightAtEnd (receive_work (joined_with sharing c plp) c plp) (file_at h (file ∷ [])) places bytes result
-    → ReceivesIfShort sharing (bytes_of h.files file) id c (run_outcome receive_cause result)
-received_so sharing id file c plp at h (Ok ran) places bytes (whole, all) = inr
-    (plp, at, λ short. (Ok ran, (bytes, all), refl))
-received_so sharing id file c plp at h (Err (receive.RecordRefused number why)) places bytes met =
-    inr (plp, at, λ short. (Err (receive.RecordRefused number why), (bytes, met.before), refl))
-
-received_long : (sharing : Sharing) (id : ℕ) (file : List ℕ) (c : Config) (plp : ℕ) → IsPlaceBy sharing c id plp
-    → (h : Held) (input : ℕ)
-    (outcome : Outcome) → input < 1 → longest_file ≤ length (file_at h (file ∷ []) input)
-    → ReceivesIfShort sharing (bytes_of h.files file) id c outcome
-received_long sharing id file c plp at h zero outcome lt most = inr
-    (plp, at, λ short. absurd (omega (arith, most, short)))
-received_long sharing id file c plp at h (suc input) outcome lt most = absurd (omega (arith, lt))
+    → IsRightAtEnd (receive_work joins c plp) (file_at h (file ∷ [])) places bytes result
+    → ReceiveMust joins c plp (bytes_of h.files file) result
+received_so joins file c plp h (Ok ran) places bytes (whole, all) = (bytes, all)
+received_so joins file c plp h (Err (receive.RecordRefused number why)) places bytes met = (bytes, met.before)
 
 receive_follows : (sharing : Sharing) (id : ℕ) (file out : List ℕ) (c : Config) (old mid new : State) (result : Outcome)
     → SameCounts old mid → receives.Follows sharing id file out c mid new result
-    → ReceptionMust sharing id file c mid result ⊎ By old new result
-receive_follows sharing id file out c old mid new result same (inl (none, stay, is)) = inl
-    (if_any mid.held _ (λ h. inl (none, is)))
+    → IfSome mid.held (λ h. IsEnd (ReceiveMustEnd sharing (bytes_of h.files file) id c) result) ⊎ By old new result
+receive_follows sharing id file out c old mid new result same (inl (none, stay, is)) =
+    inl (if_any mid.held _ (λ h. λ outcome must. inl (none, is)))
 receive_follows sharing id file out c old mid new result same (inr (plp, at, runs)) =
-    let work = receive_work (joined_with sharing c plp) c plp in
-    let must = λ (h : Held). ReceivesIfShort sharing (bytes_of h.files file) id c in
-    ways (receives.Ends sharing file out c plp) (receives.StopsSo sharing file out c plp) receive_line receive_cause
-    (ReceptionMust sharing id file c)
-    (λ x y stop e. asked work (Into out) (file ∷ []) receive_cause must (received_so sharing id file c plp at)
-    (received_long sharing id file c plp at) x y (Err stop) e)
-    (λ x y ran e. asked_at_end work (Into out) (file ∷ []) receive_cause must (received_so sharing id file c plp at)
-    x y ran e.0)
-    old mid new result same runs
-
-receive_so : OnePlan → OneReception → (sharing : Sharing) (old new : State) (config : List ℕ) (id : ℕ)
-    (file out : List ℕ)
-    (result : Outcome) → receives.Receives sharing old new config id file out result
-    → IsComplete (Receive sharing config id file out) old new result
-receive_so one run sharing old new config id file out result does =
-    by_plan one (Receive sharing config id file out) config (receives.Follows sharing id file out)
-    (λ held. ReceivesIfShort sharing (bytes_of held.files file) id) (λ held. ReceiveMustEnd sharing
-    (bytes_of held.files file) id)
-    (λ held outcome m. m) (λ held c outcome m. m)
-    (λ held c mine outcome plan. receive_one run sharing (bytes_of held.files file) id c mine outcome plan)
-    (receive_follows sharing id file out) old new result does
-
--- ---- `merge`
-
-abbrev MergingMust : List (List ℕ) → Config → State → Outcome → Type 0
-MergingMust ins c mid outcome = IfSome mid.held (λ h. MergesIfShort h ins c outcome)
+    ways (receive_work (joined_with sharing c plp) c plp) (Into out) (file ∷ []) receive_cause
+    (λ h. ReceiveMust (joined_with sharing c plp) c plp (bytes_of h.files file))
+    (λ h. ReceiveMustEnd sharing (bytes_of h.files file) id c) (received_so (joined_with sharing c plp) file c plp)
+    (λ h. placed receive_cause h (file ∷ []) id (HasNoPlaceBy sharing c id) (IsPlaceBy sharing c id)
+    (length (bytes_of h.files file) < longest_file)
+    (λ k. ReceiveMust (joined_with sharing c k) c k (bytes_of h.files file))
+    (λ none k there. never_by sharing c id k none there) (one_short h file) plp at)
+    (receives.Ends sharing file out c plp) (receives.StopsSo sharing file out c plp) receive_line
+    (λ a b stop s. s) (λ a b ran e. e.0) old mid new result same runs
 
 merged_so : (ins : List (List ℕ)) (c : Config) (h : Held) (result : Result MergeRan MergeStop) (places bytes : List ℕ)
-    → IsRightAtEnd (merge_work c) (file_at h ins) places bytes result
-    → MergesIfShort h ins c (run_outcome merge_cause result)
-merged_so ins c h (Ok ran) places bytes (whole, all) = λ short. (Ok ran, (all.some, all.early, all.ran_is), refl)
-merged_so ins c h (Err merge.NoSuperframe) places bytes (whole, has) = λ short. (Err merge.NoSuperframe, has.none, refl)
-merged_so ins c h (Err merge.TooManyFrames) places bytes (has, ahead) = λ short.
-    (Err merge.TooManyFrames, has.late, refl)
-
-merged_long : (ins : List (List ℕ)) (c : Config) (h : Held) (input : ℕ) (outcome : Outcome) → input < length ins
-    → longest_file ≤ length (file_at h ins input) → MergesIfShort h ins c outcome
-merged_long ins c h input outcome lt most = λ short. let few = short input lt in absurd (omega (arith, most, few))
-
-merge_so : OnePlan → OneMerging → (old new : State) (config a b out : List ℕ) (result : Outcome)
-    → merges.Merges old new config a b out result → IsComplete (Merge config a b out) old new result
-merge_so one run old new config a b out result does =
-    by_plan one (Merge config a b out) config (merges.Follows a b out) (λ held. MergesIfShort held (names_of a b))
-    (λ held. MergeMustEnd held (names_of a b)) (λ held outcome m. m) (λ held c outcome m. m)
-    (λ held c mine outcome plan. merge_one run held (names_of a b) c mine outcome)
-    (λ c old mid new result same runs.
-    let must = λ (h : Held). MergesIfShort h (names_of a b) c in
-    ways (merges.Ends a b out c) (merges.StopsSo a b out c) merges.merge_line merge_cause (MergingMust (names_of a b) c)
-    (λ x y stop e. asked (merge_work c) (Into out) (names_of a b) merge_cause must (merged_so (names_of a b) c)
-    (merged_long (names_of a b) c) x y (Err stop) e)
-    (λ x y ran e. asked_at_end (merge_work c) (Into out) (names_of a b) merge_cause must (merged_so (names_of a b) c)
-    x y ran e.0)
-    old mid new result same runs)
-    old new result does
-
--- ---- `mend`
-
-abbrev MendingMust : List (List ℕ) → Config → State → Outcome → Type 0
-MendingMust ins c mid outcome = IfSome mid.held (λ h. MendsIfShort h ins c outcome)
+    → IsRightAtEnd (merge_work c) (file_at h ins) places bytes result → MergeMust c (file_at h ins) result
+merged_so ins c h (Ok ran) places bytes (whole, all) = (all.some, all.early, all.ran_is)
+merged_so ins c h (Err merge.NoSuperframe) places bytes (whole, has) = has.none
+merged_so ins c h (Err merge.TooManyFrames) places bytes (has, ahead) = has.late
 
 mended_so : (ins : List (List ℕ)) (c : Config) (h : Held) (result : Result MendRan MendStop) (places bytes : List ℕ)
     → IsRightAtEnd (mend_work c (length ins)) (file_at h ins) places bytes result
-    → MendsIfShort h ins c (run_outcome mend_cause result)
-mended_so ins c h (Ok ran) places bytes (whole, all) = λ short. (Ok ran, (all.some, all.ran_is), refl)
-mended_so ins c h (Err mend.NoFrame) places bytes (whole, has) = λ short. (Err mend.NoFrame, has.none, refl)
+    → MustMend c (length ins) (file_at h ins) result
+mended_so ins c h (Ok ran) places bytes (whole, all) = (all.some, all.ran_is)
+mended_so ins c h (Err mend.NoFrame) places bytes (whole, has) = has.none
 
-mended_long : (ins : List (List ℕ)) (c : Config) (h : Held) (input : ℕ) (outcome : Outcome) → input < length ins
-    → longest_file ≤ length (file_at h ins input) → MendsIfShort h ins c outcome
-mended_long ins c h input outcome lt most = λ short. let few = short input lt in absurd (omega (arith, most, few))
-
-mend_so : OnePlan → (old new : State) (config out : List ℕ) (ins : List (List ℕ)) (result : Outcome)
-    → mends.Mends old new config out ins result → IsComplete (Mend config out ins) old new result
-mend_so one old new config out ins result does =
-    by_plan one (Mend config out ins) config (mends.Follows out ins) (λ held. MendsIfShort held ins)
-    (λ held. MendMustEnd held ins) (λ held outcome m. m) (λ held c outcome m. m)
-    (λ held c mine outcome plan. mend_one held ins c mine outcome)
-    (λ c old mid new result same runs.
-    let work = mend_work c (length ins) in
-    let must = λ (h : Held). MendsIfShort h ins c in
-    ways (mends.Ends out ins c) (mends.StopsSo out ins c) mends.mend_line mend_cause (MendingMust ins c)
-    (λ x y stop e. asked work (Into out) ins mend_cause must (mended_so ins c) (mended_long ins c) x y (Err stop) e)
-    (λ x y ran e. asked_at_end work (Into out) ins mend_cause must (mended_so ins c) x y ran e.0)
-    old mid new result same runs)
-    old new result does
-
--- ---- `swap`
-
-abbrev SwappingMust : List (List ℕ) → ℕ → Config → State → Outcome → Type 0
-SwappingMust ins id c mid outcome = IfSome mid.held (λ h. SwapsIfShort h ins id c outcome)
-
-swapped_so : (ins : List (List ℕ)) (id : ℕ) (c : Config) (plp : ℕ) → IsPlace c id plp
-    → (h : Held) (result : Result SwapRan SwapStop)
+swapped_so : (ins : List (List ℕ)) (c : Config) (plp : ℕ) (h : Held) (result : Result SwapRan SwapStop)
     (places bytes : List ℕ) → IsRightAtEnd (swap_work c plp) (file_at h ins) places bytes result
-    → SwapsIfShort h ins id c (run_outcome swap_cause result)
-swapped_so ins id c plp at h (Ok ran) places bytes (whole, all) = inr (plp, at, λ short. (Ok ran, (bytes, all), refl))
-swapped_so ins id c plp at h (Err swap.NoSuperframe) places bytes (whole, unread, has) =
-    inr (plp, at, λ short. (Err swap.NoSuperframe, (bytes, has), refl))
-swapped_so ins id c plp at h (Err (swap.InputRefused packet)) places bytes (meets, far, ahead) =
-    inr (plp, at, λ short. (Err (swap.InputRefused packet), (bytes, meets), refl))
-swapped_so ins id c plp at h (Err swap.TooManyFrames) places bytes (has, far, ahead) =
-    inr (plp, at, λ short. (Err swap.TooManyFrames, (bytes, has), refl))
-
-swapped_long : (ins : List (List ℕ)) (id : ℕ) (c : Config) (plp : ℕ) → IsPlace c id plp
-    → (h : Held) (input : ℕ) (outcome : Outcome)
-    → input < length ins → longest_file ≤ length (file_at h ins input) → SwapsIfShort h ins id c outcome
-swapped_long ins id c plp at h input outcome lt most =
-    inr (plp, at, λ short. let few = short input lt in absurd (omega (arith, most, few)))
+    → SwapMust c plp (file_at h ins) result
+swapped_so ins c plp h (Ok ran) places bytes (whole, all) = (bytes, all)
+swapped_so ins c plp h (Err swap.NoSuperframe) places bytes (whole, unread, has) = (bytes, has)
+swapped_so ins c plp h (Err (swap.InputRefused packet)) places bytes (meets, far, ahead) = (bytes, meets)
+swapped_so ins c plp h (Err swap.TooManyFrames) places bytes (has, far, ahead) = (bytes, has)
 
 swap_follows : (id : ℕ) (t2mi file out : List ℕ) (c : Config) (old mid new : State) (result : Outcome)
-    → SameCounts old mid
-    → swaps.Follows id t2mi file out c mid new result → SwappingMust (names_of t2mi file) id c mid result
-    ⊎ By old new result
-swap_follows id t2mi file out c old mid new result same (inl (none, stay, is)) = inl
-    (if_any mid.held _ (λ h. inl (none, is)))
+    → SameCounts old mid → swaps.Follows id t2mi file out c mid new result
+    → IfSome mid.held (λ h. IsEnd (SwapMustEnd h (names_of t2mi file) id c) result) ⊎ By old new result
+swap_follows id t2mi file out c old mid new result same (inl (none, stay, is)) =
+    inl (if_any mid.held _ (λ h. λ outcome must. inl (none, is)))
 swap_follows id t2mi file out c old mid new result same (inr (plp, at, runs)) =
     let ins = names_of t2mi file in
-    let must = λ (h : Held). SwapsIfShort h ins id c in
-    ways (swaps.Ends t2mi file out c plp) (swaps.StopsSo t2mi file out c plp) swaps.swap_line swap_cause
-    (SwappingMust ins id c)
-    (λ x y stop e. asked (swap_work c plp) (Into out) ins swap_cause must (swapped_so ins id c plp at)
-    (swapped_long ins id c plp at) x y (Err stop) e)
-    (λ x y ran e. asked_at_end (swap_work c plp) (Into out) ins swap_cause must (swapped_so ins id c plp at)
-    x y ran e.0)
-    old mid new result same runs
-
-swap_so : OnePlan → OneSwapping → (old new : State) (config : List ℕ) (id : ℕ) (t2mi file out : List ℕ)
-    (result : Outcome)
-    → swaps.Swaps old new config id t2mi file out result → IsComplete (Swap config id t2mi file out) old new result
-swap_so one run old new config id t2mi file out result does =
-    by_plan one (Swap config id t2mi file out) config (swaps.Follows id t2mi file out)
-    (λ held. SwapsIfShort held (names_of t2mi file) id) (λ held. SwapMustEnd held (names_of t2mi file) id)
-    (λ held outcome m. m) (λ held c outcome m. m)
-    (λ held c mine outcome plan. swap_one run held (names_of t2mi file) id c mine outcome plan)
-    (swap_follows id t2mi file out) old new result does
-
--- ---- `compare`
-
-abbrev ComparisonMust : List (List ℕ) → Config → State → Outcome → Type 0
-ComparisonMust ins c mid outcome = IfSome mid.held (λ h. ComparesIfShort h ins c outcome)
+    ways (swap_work c plp) (Into out) ins swap_cause (λ h. SwapMust c plp (file_at h ins))
+    (λ h. SwapMustEnd h ins id c) (swapped_so ins c plp)
+    (λ h. placed swap_cause h ins id (HasNoPlace c id) (IsPlace c id) (AreShort h ins)
+    (λ k. SwapMust c k (file_at h ins)) (λ none k there. none k there.inside there.own) (λ short. short) plp at)
+    (swaps.Ends t2mi file out c plp) (swaps.StopsSo t2mi file out c plp) swaps.swap_line
+    (λ a b stop s. s) (λ a b ran e. e.0) old mid new result same runs
 
 compared_so : (ins : List (List ℕ)) (c : Config) (h : Held) (result : Result CompareRan CompareStop)
-    (places bytes : List ℕ)
-    → IsRightAtEnd (compare_work c) (file_at h ins) places bytes result
-    → ComparesIfShort h ins c (run_outcome compare_cause result)
-compared_so ins c h (Ok counts) places bytes (whole, all) = λ short. (
-  Ok counts,
-  (all.have, all.none, all.counts_are),
-  refl,
-)
-compared_so ins c h (Err (compare.Differs frame)) places bytes (whole, other) =
-    λ short. (Err (compare.Differs frame), (other.have, other.first), refl)
-compared_so ins c h (Err compare.NoSuperframe) places bytes (whole, has) = λ short.
-    (Err compare.NoSuperframe, has.none, refl)
-compared_so ins c h (Err compare.TooManyFrames) places bytes (has, ahead) = λ short.
-    (Err compare.TooManyFrames, has.late, refl)
-
-compared_long : (ins : List (List ℕ)) (c : Config) (h : Held) (input : ℕ) (outcome : Outcome) → input < length ins
-    → longest_file ≤ length (file_at h ins input) → ComparesIfShort h ins c outcome
-compared_long ins c h input outcome lt most = λ short. let few = short input lt in absurd (omega (arith, most, few))
-
-compare_follows : (a b : List ℕ) (c : Config) (old mid new : State) (result : Outcome) → SameCounts old mid
-    → compares.Follows a b c mid new result → ComparisonMust (names_of a b) c mid result ⊎ By old new result
-compare_follows a b c old mid new result same (told, runs, is, never) =
-    ⊎_elim (λ m. inl (subst (ComparisonMust (names_of a b) c mid) (sym is) m))
-    (λ by. inr (by_before old mid new result same (subst (By mid new) (sym is) by)))
-    (asked (compare_work c) Aloud (names_of a b) compare_cause (λ h. ComparesIfShort h (names_of a b) c)
-    (compared_so (names_of a b) c)
-    (compared_long (names_of a b) c) mid new told runs)
-
-compare_so : OnePlan → OneComparison → (old new : State) (config a b : List ℕ) (result : Outcome)
-    → compares.Compares old new config a b result → IsComplete (Compare config a b) old new result
-compare_so one law old new config a b result does =
-    by_plan one (Compare config a b) config (compares.Follows a b) (λ held. ComparesIfShort held (names_of a b))
-    (λ held. CompareMustEnd held (names_of a b)) (λ held outcome m. m) (λ held c outcome m. m)
-    (λ held c mine outcome plan. compare_one law held (names_of a b) c mine outcome)
-    (λ c old mid new result same f. compare_follows a b c old mid new result same f)
-    old new result does
+    (places bytes : List ℕ) → IsRightAtEnd (compare_work c) (file_at h ins) places bytes result
+    → CompareMust c (file_at h ins) result
+compared_so ins c h (Ok counts) places bytes (whole, all) = (all.have, all.none, all.counts_are)
+compared_so ins c h (Err (compare.Differs frame)) places bytes (whole, other) = (other.have, other.first)
+compared_so ins c h (Err compare.NoSuperframe) places bytes (whole, has) = has.none
+compared_so ins c h (Err compare.TooManyFrames) places bytes (has, ahead) = has.late
 
 -- ---- `trial`
 
@@ -666,37 +494,59 @@ trial_so old new seed frames result (inr (text, lines, tells)) =
     (failed (Trial seed frames) old new result)
     (told old old new text result refl tells)
 
-pub is_complete : OneEnding → OnePlan → OneRun → OneModulation → OneReception → OneMerging → OneSwapping
-    → OneComparison → Completeness
-is_complete law one run modulation reception merging swapping comparison (ShowPackets file) old new result s =
-    subst (IsComplete (ShowPackets file) old new) (sym s.2)
-    (packets_so law file old new s.1.given s.1.text s.1.unsaid s.0 s.1.lines s.1.counts)
-is_complete law one run modulation reception merging swapping comparison (ShowT2mi file) old new result s =
-    subst (IsComplete (ShowT2mi file) old new) (sym s.2) (t2mi_so file old new s.1.given s.1.text s.1.unsaid
-    s.0 s.1.lines s.1.counts)
-is_complete law one run modulation reception merging swapping comparison (ShowFrames file) old new result s =
-    subst (IsComplete (ShowFrames file) old new) (sym s.2)
-    (records_so law file old new s.1.given s.1.text s.1.unsaid s.0 s.1.lines s.1.counts)
-is_complete law one run modulation reception merging swapping comparison (ShowConfig file) old new result
-    s = config_so law old new file result s
-is_complete law one run modulation reception merging swapping comparison (Plan config) old new result
-    s = plan_so law old new config result s
-is_complete law one run modulation reception merging swapping comparison (Gateway sharing config out ins)
-    old new result s =
-    gateway_so one run sharing old new config out ins result s
-is_complete law one run modulation reception merging swapping comparison (Modulate config file out) old new result s =
-    modulate_so one modulation old new config file out result s
-is_complete law one run modulation reception merging swapping comparison (Receive sharing config id file out)
-    old new result s =
-    receive_so one reception sharing old new config id file out result s
-is_complete law one run modulation reception merging swapping comparison (Merge config a b out) old new result s =
-    merge_so one merging old new config a b out result s
-is_complete law one run modulation reception merging swapping comparison (Mend config out ins) old new result s =
-    mend_so one old new config out ins result s
-is_complete law one run modulation reception merging swapping comparison (Swap config id t2mi file out)
-    old new result s =
-    swap_so one swapping old new config id t2mi file out result s
-is_complete law one run modulation reception merging swapping comparison (Compare config a b) old new result s =
-    compare_so one comparison old new config a b result s
-is_complete law one run modulation reception merging swapping comparison (Trial seed frames) old new
-    result s = trial_so old new seed frames result s
+module _ (law : OneEnding) (one : OnePlan) where
+  pub is_complete : Completeness
+  is_complete (ShowPackets file) old new result s =
+      subst (IsComplete (ShowPackets file) old new) (sym s.2)
+      (packets_so law file old new s.1.given s.1.text s.1.unsaid s.0 s.1.lines s.1.counts)
+  is_complete (ShowT2mi file) old new result s =
+      subst (IsComplete (ShowT2mi file) old new) (sym s.2)
+      (t2mi_so file old new s.1.given s.1.text s.1.unsaid s.0 s.1.lines s.1.counts)
+  is_complete (ShowFrames file) old new result s =
+      subst (IsComplete (ShowFrames file) old new) (sym s.2)
+      (records_so law file old new s.1.given s.1.text s.1.unsaid s.0 s.1.lines s.1.counts)
+  is_complete (ShowConfig file) old new result s = config_so law old new file result s
+  is_complete (Plan config) old new result s = plan_so law old new config result s
+  is_complete (Gateway sharing config out ins) old new result s =
+      by_plan law one (Gateway sharing config out ins) config (gateways.Follows sharing out ins)
+      (λ h. PlanMustEnd sharing h ins) (λ h o m. m) (λ h o m. m) (λ h c o m. m) (gateway_follows sharing out ins)
+      old new result s
+  is_complete (Modulate config file out) old new result s =
+      by_plan law one (Modulate config file out) config (modulates.Follows file out)
+      (λ h. ModulateMustEnd (bytes_of h.files file)) (λ h o m. m) (λ h o m. m) (λ h c o m. m)
+      (λ c. ways (modulate_work c) (Into out) (file ∷ []) modulate_cause (λ h. ModulateMust c (bytes_of h.files file))
+      (λ h. ModulateMustEnd (bytes_of h.files file) c) (modulated_so file c)
+      (λ h o must. (one_short h file must.0, λ r m. (must.0, (r, m, refl))))
+      (modulates.Ends file out c) (modulates.StopsSo file out c) modulates.modulate_line
+      (λ a b stop s. s.0) (λ a b ran e. e.0)) old new result s
+  is_complete (Receive sharing config id file out) old new result s =
+      by_plan law one (Receive sharing config id file out) config (receives.Follows sharing id file out)
+      (λ h. ReceiveMustEnd sharing (bytes_of h.files file) id) (λ h o m. m) (λ h o m. m) (λ h c o m. m)
+      (receive_follows sharing id file out) old new result s
+  is_complete (Merge config a b out) old new result s =
+      by_plan law one (Merge config a b out) config (merges.Follows a b out) (λ h. MergeMustEnd h (names_of a b))
+      (λ h o m. m) (λ h o m. m) (λ h c o m. m)
+      (λ c. ways (merge_work c) (Into out) (names_of a b) merge_cause (λ h. MergeMust c (file_at h (names_of a b)))
+      (λ h. MergeMustEnd h (names_of a b) c) (merged_so (names_of a b) c)
+      (λ h o must. (must.0, λ r m. (must.0, (r, m, refl))))
+      (merges.Ends a b out c) (merges.StopsSo a b out c) merges.merge_line (λ a b stop s. s) (λ a b ran e. e.0))
+      old new result s
+  is_complete (Mend config out ins) old new result s =
+      by_plan law one (Mend config out ins) config (mends.Follows out ins) (λ h. MendMustEnd h ins)
+      (λ h o m. m) (λ h o m. m) (λ h c o m. m)
+      (λ c. ways (mend_work c (length ins)) (Into out) ins mend_cause (λ h. MustMend c (length ins) (file_at h ins))
+      (λ h. MendMustEnd h ins c) (mended_so ins c) (λ h o must. (must.0, λ r m. (must.0, (r, m, refl))))
+      (mends.Ends out ins c) (mends.StopsSo out ins c) mends.mend_line (λ a b stop s. s) (λ a b ran e. e.0))
+      old new result s
+  is_complete (Swap config id t2mi file out) old new result s =
+      by_plan law one (Swap config id t2mi file out) config (swaps.Follows id t2mi file out)
+      (λ h. SwapMustEnd h (names_of t2mi file) id) (λ h o m. m) (λ h o m. m) (λ h c o m. m)
+      (swap_follows id t2mi file out) old new result s
+  is_complete (Compare config a b) old new result s =
+      by_plan law one (Compare config a b) config (compares.Follows a b) (λ h. CompareMustEnd h (names_of a b))
+      (λ h o m. m) (λ h o m. m) (λ h c o m. m)
+      (λ c old mid new result same f. asked_so (compare_work c) Aloud (names_of a b) compare_cause
+      (λ h. CompareMust c (file_at h (names_of a b))) (λ h. CompareMustEnd h (names_of a b) c)
+      (compared_so (names_of a b) c) (λ h o must. (must.0, λ r m. (must.0, (r, m, refl))))
+      old mid new f.0 result same f.1 f.2) old new result s
+  is_complete (Trial seed frames) old new result s = trial_so old new seed frames result s

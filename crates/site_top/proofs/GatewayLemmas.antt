@@ -1,24 +1,11 @@
--- The output of `gateway` is none of its inputs, and what is told of its run.
-use Rattle.std.proofs.Common.{◌≡◌, ◌≢◌, ℕ, zero, suc, ◌<◌, Bool, true, false, List, [], ◌∷◌, length, refl, sym, subst}
-use Rattle.std.proofs.Common.{inl, inr, arith}
-use Rattle.std.specs.Prelude.{not, slice_index_or, Result, Ok, Err, IfOk, IfErr}
+-- The output of `gateway` is none of its inputs.
+use Rattle.std.proofs.Common.{◌≡◌, ◌≢◌, ℕ, zero, suc, ◌<◌, Bool, true, false, List, [], ◌∷◌, length, refl}
+use Rattle.std.proofs.Common.{arith}
+use Rattle.std.specs.Prelude.{not, slice_index_or}
 use Rattle.std.specs.Str.{bytes_eq}
 use Rattle.std.proofs.lemmas.Slice.Eq.{bytes_eq-Decides}
 use Rattle.std.proofs.lemmas.Bool.{and_parts}
-use Rattle.ports.specs.Desk.{State}
-use Rattle.plp_config.specs.declared.config.Config.{Config}
-use Rattle.common_plp.specs.Sharing.{Sharing}
-use Rattle.file_run.specs.Work.{Ends as RunEnds, Into}
-use Rattle.file_run.specs.declared.stop.RunStop.{RunStop}
-use Rattle.gateway_run.specs.GatewayRun.{gateway_work}
-use Rattle.gateway_run.specs.declared.stop.GatewayStop.{GatewayStop}
-use Rattle.gateway_run.specs.declared.stop.GatewayRan.{GatewayRan}
-use Rattle.site_top.specs.declared.outcome.Outcome.{Outcome}
 use Rattle.site_top.specs.Commands.{is_empty, is_input, are_inputs}
-use Rattle.site_top.specs.GatewayCommand.{Ends, StopsSo, gateway_line}
-use Rattle.site_top.specs.Outcomes.{gateway_cause, stop_outcome}
-use Rattle.site_top.specs.PlanCommand.{RunsAndTells}
-use Rattle.site_top.specs.Saying.{Tells}
 
 not_true : (b : Bool) → not b ≡ true → b ≡ false
 not_true true e = cc
@@ -39,13 +26,3 @@ apart out (file ∷ files) e zero inside = other_name file out (and_parts (is_in
 apart out (file ∷ files) e (suc plp) inside = apart out files (and_parts (is_input out file) (are_inputs out files) e).1
     plp
     (omega arith)
-
-pub gateway_told : (sharing : Sharing) (out : List ℕ) (ins : List (List ℕ)) (c : Config) (mid after new : State)
-    (run : Result GatewayRan (RunStop GatewayStop)) (outcome : Outcome) → RunEnds (gateway_work sharing c) mid
-    after (Into out) ins run
-    → IfOk run (λ ran. Tells after new (gateway_line ran) outcome)
-    → IfErr run (λ stop. (new ≡ after) × (outcome ≡ stop_outcome gateway_cause stop))
-    → RunsAndTells (Ends sharing out ins c) (StopsSo sharing out ins c) gateway_line gateway_cause mid new outcome
-gateway_told sharing out ins c mid after new (Ok ran) outcome ends tells is = inr (ran, after, ends, tells)
-gateway_told sharing out ins c mid after new (Err stop) outcome ends tells is =
-    inl (stop, subst (λ (s : State). StopsSo sharing out ins c mid s stop) (sym is.0) ends, is.1)

@@ -1,9 +1,7 @@
 -- What holds of streams that were mended, and how a run over them must end.
-use Rattle.std.proofs.Common.{◌≡◌, ◌≢◌, ℕ, List, [], ◌∷◌, length, Option, Some, None, refl, ap, sym, ◌∙◌, arith}
-use Rattle.std.specs.Prelude.{Result, Ok, Err, IfSome, unwrap_or}
-use Rattle.std.specs.FinMap.{get}
-use Rattle.std.proofs.lemmas.Option.{same_Some}
-use Rattle.ports.specs.Desk.{State, Held, bytes_of}
+use Rattle.std.proofs.Common.{◌≡◌, ◌≢◌, ℕ, List, [], ◌∷◌, length, refl, ap, sym, ◌∙◌, arith}
+use Rattle.std.specs.Prelude.{Result, Ok, Err}
+use Rattle.ports.specs.Desk.{State}
 use Rattle.plp_config.specs.Capacity.{IsPlan}
 use Rattle.plp_config.specs.Rules.Rule.{SuperframeLength}
 use Rattle.plp_config.specs.declared.config.Config.{Config}
@@ -14,18 +12,14 @@ use Rattle.network_laws.specs.FeedsOfRun.{DamagedRunsMended, WholeAmongDamaged, 
 use Rattle.network_laws.specs.FeedsOfRun.{NoneLostMended}
 use Rattle.network_laws.specs.MendedRun.{MendedComesBack, modulated_records}
 use Rattle.stream_laws.specs.Types.{TypesFit}
-use Rattle.file_run.specs.FileRun.{file_at}
 use Rattle.file_run.specs.Work.{Ends, Into}
-use Rattle.file_run.proofs.WorkLemmas.{works_of}
+use Rattle.site_top.proofs.PlanCommandLemmas.{holds_of}
 use Rattle.mend_run.specs.Counted.{counted}
-use Rattle.mend_run.specs.MendRun.{MendsAll, mend_work}
+use Rattle.mend_run.specs.MendRun.{mend_work}
 use Rattle.mend_run.specs.declared.stop.MendStop.{MendStop}
 use Rattle.mend_run.specs.declared.stop.MendStop.TheVariants.{NoFrame}
 use Rattle.mend_run.specs.declared.stop.MendRan.{MendRan}
-use Rattle.site_top.specs.declared.outcome.Outcome.{Outcome}
 use Rattle.site_top.specs.MendCommand.{MustMend, HoldsMended, UnitsAreMended, ComesOfMended}
-use Rattle.site_top.specs.Outcomes.{run_outcome, mend_cause}
-use Rattle.site_top.specs.Runs.{AreShort, MendMustEnd}
 
 pub record MendLaws : Type 0 where
   pub pass : MadePass
@@ -60,23 +54,12 @@ pub holds_mended : (c : Config) (old new : State) (ins : List (List ℕ)) (out :
     → UnitsAreMended c
     → Ends (mend_work c (length ins)) old new (Into out) ins (Ok ran) → HoldsMended c old new ins out
 holds_mended c old new ins out ran law (counts, d) =
-    go old.held new.held (works_of (λ files bytes. MendsAll c (length ins) files ran bytes) d d.does.1.1).holds
-  where
-    go : (h k : Option Held)
-        → IfSome h (λ x. (y : Held) × (k ≡ Some y)
-        × ((bytes : List ℕ) × (get y.files out ≡ Some bytes) × MendsAll c (length ins) (file_at x ins) ran bytes))
-        → IfSome h (λ x. IfSome k (λ y. ComesOfMended c (length ins) (file_at x ins) (bytes_of y.files out)))
-    go None k w = tt
-    go (Some x) None w = tt
-    go (Some x) (Some y) w =
-        law (length ins) (file_at x ins) (bytes_of y.files out)
-        (ap (λ (z : Held). bytes_of z.files out) (same_Some y w.0 w.1)
-        ∙ ap (λ (o : Option (List ℕ)). unwrap_or o []) w.2.1
-        ∙ w.2.2.output)
+    holds_of (ComesOfMended c (length ins)) d (law (length ins) d.files d.bytes d.does.1.1.output)
 
 -- ---- how it must end
 
-one_mend : (c : Config) (k : ℕ) (files : ℕ → List ℕ) (result other : Result MendRan MendStop)
+-- A run over them has one ending,
+pub one_mend : (c : Config) (k : ℕ) (files : ℕ → List ℕ) (result other : Result MendRan MendStop)
     → MustMend c k files result
     → MustMend c k files other → result ≡ other
 one_mend c k files (Ok ran) (Ok other) a b = ap Ok (a.1 ∙ sym b.1)
@@ -84,6 +67,7 @@ one_mend c k files (Ok ran) (Err NoFrame) a b = absurd (a.0 b)
 one_mend c k files (Err NoFrame) (Ok other) a b = absurd (b.0 a)
 one_mend c k files (Err NoFrame) (Err NoFrame) a b = refl
 
+-- and has it.
 some_is : (x : Made) (made : List Made) → (x ∷ made) ≢ []
 some_is x made e = cc
 
@@ -98,15 +82,3 @@ mend_ends c k files = go (made_of_all c k files) refl
       Ok (counted (made_of_all c k files) (length (units_of c k files))),
       ((λ none. some_is x made (sym is ∙ none)), refl),
     )
-
--- How it must end over a plan, if its inputs are not too long.
-abbrev pub MendsIfShort : Held → List (List ℕ) → Config → Outcome → Type 0
-MendsIfShort held ins c outcome = AreShort held ins → (result : Result MendRan MendStop)
-    × MustMend c (length ins) (file_at held ins) result × (outcome ≡ run_outcome mend_cause result)
-
-pub mend_one : (held : Held) (ins : List (List ℕ)) (c : Config) (result outcome : Outcome)
-    → MendsIfShort held ins c result → MendMustEnd held ins c outcome → result ≡ outcome
-mend_one held ins c result outcome mine must =
-    let r = mine must.0 in
-    r.2 ∙ ap (run_outcome mend_cause) (one_mend c (length ins) (file_at held ins) r.0 must.1.0 r.1 must.1.1)
-    ∙ sym must.1.2

@@ -1,15 +1,14 @@
 -- What holds of two streams that were merged.
 use Rattle.std.proofs.Common.{◌≡◌, ℕ, zero, suc, ◌+◌, ◌-◌, ◌<◌, ◌≤◌, true, List, [], ◌∷◌, ◌++◌, map, max, Option, Some}
 use Rattle.std.proofs.Common.{None, refl, ap, ap₂, sym, ◌∙◌, arith, append-nil}
-use Rattle.std.specs.Prelude.{Ok, IsSome, IfSome, unwrap_or, option_map, option_to_list}
-use Rattle.std.specs.FinMap.{get}
+use Rattle.std.specs.Prelude.{Ok, IsSome, option_map, option_to_list}
 use Rattle.std.specs.List.{flat_map, find, range_with_len}
 use Rattle.std.specs.Option.{option_or}
 use Rattle.std.proofs.lemmas.List.Concat.{flat_map-append}
 use Rattle.std.proofs.lemmas.Option.{same_Some}
 use Rattle.terms.proofs.OptionLemmas.{none_some}
 use Rattle.terms.proofs.RangeLemmas.{range_append}
-use Rattle.ports.specs.Desk.{State, Held, bytes_of}
+use Rattle.ports.specs.Desk.{State}
 use Rattle.plp_config.specs.Capacity.{IsPlan}
 use Rattle.plp_config.specs.declared.config.Config.{Config}
 use Rattle.plp_config.specs.declared.moment.TheConstants.{MOST_FRAMES}
@@ -29,12 +28,11 @@ use Rattle.feed_merge.specs.Laws.{PicksAreFrames}
 use Rattle.feed_merge.specs.Picks.{Picked, frame_from, pick_of, picks_below, above_all, picks, frames_of}
 use Rattle.feed_merge.proofs.GrowLemmas.{test, pick, nothing, below_more, above_is, all_below}
 use Rattle.network_laws.specs.Merged.{merged, MergedComesBack}
-use Rattle.merge_run.specs.MergeRun.{MergesAll, merge_work}
+use Rattle.merge_run.specs.MergeRun.{merge_work}
 use Rattle.feed_merge.specs.Fed.{names_of}
 use Rattle.merge_run.specs.declared.stop.MergeRan.{MergeRan}
-use Rattle.file_run.specs.FileRun.{file_at}
 use Rattle.file_run.specs.Work.{Ends, Into}
-use Rattle.file_run.proofs.WorkLemmas.{works_of}
+use Rattle.site_top.proofs.PlanCommandLemmas.{holds_of}
 use Rattle.site_top.specs.MergeCommand.{picked_at, AreDamaged, ComesOfMerged, HoldsMerged, UnitsAreMerged}
 
 -- ---- the frame that is picked of a number
@@ -143,19 +141,6 @@ are_merged c plan fit come law again a b bytes early_a early_b is = record {
 pub holds_merged : (c : Config) (old new : State) (a b out : List ℕ) (ran : MergeRan) → UnitsAreMerged c
     → Ends (merge_work c) old new (Into out) (names_of a b) (Ok ran) → HoldsMerged c old new a b out
 holds_merged c old new a b out ran law (counts, d) =
-    go old.held new.held (works_of (λ files bytes. MergesAll c files ran bytes) d d.does.1.1).holds
-  where
-    go : (h k : Option Held)
-        → IfSome h (λ x. (y : Held) × (k ≡ Some y)
-        × ((bytes : List ℕ) × (get y.files out ≡ Some bytes) × MergesAll c (file_at x (names_of a b)) ran bytes))
-        → IfSome h (λ x. IfSome k
-        (λ y. ComesOfMerged c (bytes_of x.files a) (bytes_of x.files b) (bytes_of y.files out)))
-    go None k w = tt
-    go (Some x) None w = tt
-    go (Some x) (Some y) w =
-        let all = w.2.2 in
-        law (bytes_of x.files a) (bytes_of x.files b) (bytes_of y.files out)
-        (all.early 0 (omega arith)) (all.early 1 (omega arith))
-        (ap (λ (z : Held). bytes_of z.files out) (same_Some y w.0 w.1)
-        ∙ ap (λ (o : Option (List ℕ)). unwrap_or o []) w.2.1
-        ∙ all.output)
+    let all = d.does.1.1 in
+    holds_of (λ files bytes. ComesOfMerged c (files 0) (files 1) bytes) d
+    (law (d.files 0) (d.files 1) d.bytes (all.early 0 (omega arith)) (all.early 1 (omega arith)) all.output)

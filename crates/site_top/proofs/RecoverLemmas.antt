@@ -1,13 +1,11 @@
 -- What comes back of a file of the records of a run's frames.
 use Rattle.std.proofs.Common.{◌≡◌, ℕ, zero, suc, ◌+◌, ◌*◌, ◌<◌, ◌≤◌, Bool, true, not, List, [], ◌∷◌, ◌++◌, map, length}
-use Rattle.std.proofs.Common.{Option, Some, None, refl, ap, sym, subst, ◌∙◌, arith}
-use Rattle.std.specs.Prelude.{Ok, IfSome, unwrap_or, replicate}
-use Rattle.std.specs.FinMap.{get}
+use Rattle.std.proofs.Common.{Option, None, refl, ap, sym, subst, ◌∙◌, arith}
+use Rattle.std.specs.Prelude.{Ok, IfSome, replicate}
 use Rattle.std.specs.List.{AllByRecursion, concat, range_with_len}
 use Rattle.std.proofs.Math.Seq.{drop-append_seam}
 use Rattle.std.proofs.lemmas.Bool.{cond_both}
-use Rattle.std.proofs.lemmas.Option.{same_Some}
-use Rattle.ports.specs.Desk.{State, Held, bytes_of}
+use Rattle.ports.specs.Desk.{State, bytes_of}
 use Rattle.plp_config.specs.Capacity.{IsPlan}
 use Rattle.plp_config.specs.Emission.{emission}
 use Rattle.plp_config.specs.Laws.{FrameCountLeast}
@@ -33,7 +31,7 @@ use Rattle.stream_laws.specs.Types.{TypesFit}
 use Rattle.plp_receiver.specs.Epochs.{Readback}
 use Rattle.plp_receiver.specs.JoinedBack.{JoinedBackWith}
 use Rattle.file_run.specs.Work.{Ends, Into}
-use Rattle.file_run.proofs.WorkLemmas.{works_of}
+use Rattle.site_top.proofs.PlanCommandLemmas.{holds_of}
 use Rattle.receive_run.specs.JoinedReceived as joined
 use Rattle.receive_run.specs.JoinedRun as run
 use Rattle.receive_run.specs.Received.{Received}
@@ -168,21 +166,8 @@ pub holds_with : (P : List ℕ → List ℕ → Type 0) (joins : Option ℕ) (c 
     → Ends (run.receive_work joins c plp) old new (Into out) (file ∷ []) (Ok ran)
     → IfSome old.held (λ h. IfSome new.held (λ k. P (bytes_of h.files file) (bytes_of k.files out)))
 holds_with P joins c plp old new file out ran law (counts, d) =
-    go old.held new.held (works_of (λ files bytes. run.HasAll joins c plp ran (files 0) bytes) d d.does.1.1).holds
-  where
-    go : (h k : Option Held)
-        → IfSome h (λ x. (y : Held) × (k ≡ Some y)
-        × ((bytes : List ℕ) × (get y.files out ≡ Some bytes) × run.HasAll joins c plp ran (bytes_of x.files file)
-        bytes))
-        → IfSome h (λ x. IfSome k (λ y. P (bytes_of x.files file) (bytes_of y.files out)))
-    go None k w = tt
-    go (Some x) None w = tt
-    go (Some x) (Some y) w =
-        let here : w.2.0 ≡ bytes_of y.files out =
-        sym (ap (λ (z : Held). bytes_of z.files out) (same_Some y w.0 w.1)
-        ∙ ap (λ (o : Option (List ℕ)). unwrap_or o []) w.2.1) in
-        subst (P (bytes_of x.files file)) here (law (bytes_of x.files file) w.2.0 w.2.2.views w.2.2.records
-        w.2.2.received)
+    let all = d.does.1.1 in
+    holds_of (λ files bytes. P (files 0) bytes) d (law (d.files 0) d.bytes all.views all.records all.received)
 
 pub holds_back : (c : Config) (plp : ℕ) (old new : State) (file out : List ℕ) (ran : ReceiveRan) → ReceivedComesBack c
     → plp < length c.plps → Ends (run.receive_work None c plp) old new (Into out) (file ∷ []) (Ok ran)

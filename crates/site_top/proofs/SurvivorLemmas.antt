@@ -1,16 +1,14 @@
 -- The records of what is received of a run.
-use Rattle.std.proofs.Common.{◌≡◌, ℕ, true, List, [], ◌∷◌, Option, Some, None, ap, sym, ◌∙◌}
-use Rattle.std.specs.Prelude.{Ok, Err, IfSome, unwrap_or, flat_map}
-use Rattle.std.proofs.lemmas.Option.{same_Some}
-use Rattle.std.specs.FinMap.{get}
-use Rattle.ports.specs.Desk.{State, Held, bytes_of}
+use Rattle.std.proofs.Common.{◌≡◌, ℕ, true, List, [], ◌∷◌, ap, sym, ◌∙◌}
+use Rattle.std.specs.Prelude.{Ok, Err, flat_map}
+use Rattle.ports.specs.Desk.{State}
 use Rattle.plp_config.specs.declared.config.Config.{Config}
 use Rattle.open_group.specs.Written.{spelled}
 use Rattle.modulator.specs.StandsFor.{bytes_due}
 use Rattle.file_run.specs.Work.{Does, Ends, Into}
 use Rattle.file_run.specs.declared.stop.RunStop.{RunStop}
 use Rattle.file_run.specs.declared.stop.RunStop.TheVariants.{Refused, Files, OutOfMemory}
-use Rattle.file_run.proofs.WorkLemmas.{works_of}
+use Rattle.site_top.proofs.PlanCommandLemmas.{holds_of}
 use Rattle.modulate_run.specs.ModulateRun.{modulate_work}
 use Rattle.modulate_run.specs.declared.stop.ModulateRan.{ModulateRan}
 use Rattle.modulate_run.specs.declared.stop.ModulateStop.{ModulateStop}
@@ -32,19 +30,7 @@ holds_so : (c : Config) (old new : State) (file out : List ℕ) {work : (ℕ →
     → WrittenMustCome c → UndamagedMustCome c → (d : Does work old new (Into out) (file ∷ []))
     → d.bytes ≡ bytes_due c true (d.files 0) → HoldsWhatMustCome c old new file out
 holds_so c old new file out honest undamaged d is =
-    go old.held new.held (works_of (λ files bytes. bytes ≡ bytes_due c true (files 0)) d is).holds
-  where
-    go : (h k : Option Held)
-        → IfSome h (λ x. (y : Held) × (k ≡ Some y)
-        × ((bytes : List ℕ) × (get y.files out ≡ Some bytes) × (bytes ≡ bytes_due c true (bytes_of x.files file))))
-        → IfSome h (λ x. IfSome k (λ y. MustCome c (bytes_of x.files file) (bytes_of y.files out)))
-    go None k w = tt
-    go (Some x) None w = tt
-    go (Some x) (Some y) w =
-        must_come c (bytes_of x.files file) (bytes_of y.files out) honest undamaged
-        (ap (λ (z : Held). bytes_of z.files out) (same_Some y w.0 w.1)
-        ∙ ap (λ (o : Option (List ℕ)). unwrap_or o []) w.2.1
-        ∙ w.2.2)
+    holds_of (λ files bytes. MustCome c (files 0) bytes) d (must_come c (d.files 0) d.bytes honest undamaged is)
 
 pub holds_records : (c : Config) (old new : State) (file out : List ℕ) (ran : ModulateRan) → WrittenMustCome c
     → UndamagedMustCome c

@@ -1,9 +1,7 @@
 -- What holds of a stream of which a PLP was replaced.
-use Rattle.std.proofs.Common.{◌≡◌, ℕ, ◌<◌, ◌≤◌, true, List, [], map, length, Option, Some, None, ap, ◌∙◌}
-use Rattle.std.specs.Prelude.{Ok, IfSome, unwrap_or}
-use Rattle.std.specs.FinMap.{get}
-use Rattle.std.proofs.lemmas.Option.{same_Some}
-use Rattle.ports.specs.Desk.{State, Held, bytes_of}
+use Rattle.std.proofs.Common.{◌≡◌, ℕ, ◌<◌, ◌≤◌, true, List, map, length, ap, ◌∙◌}
+use Rattle.std.specs.Prelude.{Ok}
+use Rattle.ports.specs.Desk.{State}
 use Rattle.plp_config.specs.Capacity.{IsPlan}
 use Rattle.plp_config.specs.declared.config.Config.{Config}
 use Rattle.plp_config.specs.declared.moment.TheConstants.{MOST_FRAMES}
@@ -17,12 +15,11 @@ use Rattle.stream_laws.specs.Remade.{NumberedView, remade_packets}
 use Rattle.stream_laws.specs.Streams.{Honest}
 use Rattle.stream_laws.specs.SentFrames.{run_length, run_stream, stream_bytes}
 use Rattle.stream_laws.specs.Types.{TypesFit}
-use Rattle.file_run.specs.FileRun.{file_at}
 use Rattle.file_run.specs.Work.{Ends, Into}
-use Rattle.file_run.proofs.WorkLemmas.{works_of}
+use Rattle.site_top.proofs.PlanCommandLemmas.{holds_of}
 use Rattle.feed_merge.specs.Fed.{names_of}
 use Rattle.network_laws.specs.Region.{region_frames, region_of_run, RegionIsOfRun, RegionComesBack, WholeIsReplaced}
-use Rattle.swap_run.specs.SwapRun.{SwapsAll, swap_work}
+use Rattle.swap_run.specs.SwapRun.{swap_work}
 use Rattle.swap_run.specs.declared.stop.SwapRan.{SwapRan}
 use Rattle.site_top.specs.SwapCommand.{ComesOfSwapped, HoldsSwapped, UnitsAreSwapped}
 
@@ -54,18 +51,5 @@ pub holds_swapped : (c : Config) (plp : ℕ) (old new : State) (t2mi file out : 
     → UnitsAreSwapped c → Ends (swap_work c plp) old new (Into out) (names_of t2mi file) (Ok ran)
     → HoldsSwapped c plp old new t2mi file out
 holds_swapped c plp old new t2mi file out ran inside law (counts, d) =
-    go old.held new.held (works_of (λ files bytes. SwapsAll c plp files ran bytes) d d.does.1.1).holds
-  where
-    go : (h k : Option Held)
-        → IfSome h (λ x. (y : Held) × (k ≡ Some y)
-        × ((bytes : List ℕ) × (get y.files out ≡ Some bytes) × SwapsAll c plp (file_at x (names_of t2mi file))
-        ran bytes))
-        → IfSome h (λ x. IfSome k
-        (λ y. ComesOfSwapped c plp (bytes_of x.files t2mi) (bytes_of x.files file) (bytes_of y.files out)))
-    go None k w = tt
-    go (Some x) None w = tt
-    go (Some x) (Some y) w =
-        law plp (bytes_of x.files t2mi) (bytes_of x.files file) (bytes_of y.files out) inside
-        (ap (λ (z : Held). bytes_of z.files out) (same_Some y w.0 w.1)
-        ∙ ap (λ (o : Option (List ℕ)). unwrap_or o []) w.2.1
-        ∙ w.2.2.output)
+    holds_of (λ files bytes. ComesOfSwapped c plp (files 0) (files 1) bytes) d
+    (law plp (d.files 0) (d.files 1) d.bytes inside d.does.1.1.output)

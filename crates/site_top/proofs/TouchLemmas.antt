@@ -21,7 +21,7 @@ use Rattle.file_run.proofs.EndsLemmas.{OthersOf, leaves_alone}
 use Rattle.file_run.specs.Sink.{creates}
 use Rattle.gateway_run.specs.GatewayRun.{gateway_work}
 use Rattle.modulate_run.specs.ModulateRun.{modulate_work}
-use Rattle.common_plp.specs.Sharing.{Sharing, joined_with}
+use Rattle.common_plp.specs.Sharing.{joined_with}
 use Rattle.receive_run.specs.JoinedRun.{receive_work}
 use Rattle.feed_merge.specs.Fed.{names_of}
 use Rattle.merge_run.specs.MergeRun.{merge_work}
@@ -204,18 +204,6 @@ fewer out reads old new t = record {
   said = t.said;
 }
 
--- a run whose line is told
-runs_touch : {R E : Type 0} (Ends : State → State → R → Type 0) (Stops : State → State → RunStop E → Type 0) (line : R
-    → List ℕ)
-    (cause : E → Outcome) (out : Option (List ℕ)) (reads : ℕ)
-    → ((mid new : State) (stop : RunStop E) → Stops mid new stop → Touches out reads mid new)
-    → ((mid after : State) (ran : R) → Ends mid after ran → Touches out reads mid after)
-    → (mid new : State) (result : Outcome) → RunsAndTells Ends Stops line cause mid new result
-    → Touches out reads mid new
-runs_touch Ends Stops line cause out reads stopped ended mid new result r = ⊎_elim
-    (λ s. stopped mid new s.0 s.1)
-    (λ a. told out reads mid a.1 new (line a.0) result (ended mid a.1 a.0 a.2) a.3) r
-
 -- a command by the plan of CONFIG
 plan_then : (Follows : Config → State → State → Outcome → Type 0) (out : Option (List ℕ)) (reads : ℕ)
     → ((c : Config) (mid new : State) (result : Outcome) → Follows c mid new result → Touches out reads mid new)
@@ -253,73 +241,18 @@ work_touches work sink ins old new result ends =
       said = left.said.said;
     }
 
--- that of a gateway
-gateway_follows : (sharing : Sharing) (out : List ℕ) (ins : List (List ℕ)) (c : Config) (mid new : State)
-    (result : Outcome)
-    → gateways.Follows sharing out ins c mid new result → Touches (Some out) (length ins) mid new
-gateway_follows sharing out ins c mid new result f =
-    let touches = work_touches (gateway_work sharing c) (Into out) ins in
-    ⊎_elim
-    (λ none. untouched (Some out) (length ins) mid new none.0)
-    (λ all. runs_touch (gateways.Ends sharing out ins c) (gateways.StopsSo sharing out ins c) gateways.gateway_line
-    gateway_cause
-    (Some out) (length ins) (λ a b stop s. touches a b (Err stop) s) (λ a b ran r. touches a b (Ok ran) r)
-    mid new result all.1) f
-
--- that of a modulator
-modulate_follows : (file out : List ℕ) (c : Config) (mid new : State) (result : Outcome)
-    → modulates.Follows file out c mid new result → Touches (Some out) 1 mid new
-modulate_follows file out c mid new result f =
-    let touches = work_touches (modulate_work c) (Into out) (file ∷ []) in
-    runs_touch (modulates.Ends file out c) (modulates.StopsSo file out c) modulates.modulate_line modulate_cause
-    (Some out) 1
-    (λ a b stop s. touches a b (Err stop) s.0) (λ a b ran r. touches a b (Ok ran) r.0) mid new result f
-
--- that of a receiver
-receive_follows : (sharing : Sharing) (id : ℕ) (file out : List ℕ) (c : Config) (mid new : State) (result : Outcome)
-    → receives.Follows sharing id file out c mid new result → Touches (Some out) 1 mid new
-receive_follows sharing id file out c mid new result f = ⊎_elim
-    (λ none. untouched (Some out) 1 mid new none.1)
-    (λ all.
-    let touches = work_touches (receive_work (joined_with sharing c all.0) c all.0) (Into out) (file ∷ []) in
-    runs_touch (receives.Ends sharing file out c all.0) (receives.StopsSo sharing file out c all.0) receive_line
-    receive_cause
-    (Some out) 1 (λ a b stop s. touches a b (Err stop) s) (λ a b ran r. touches a b (Ok ran) r.0) mid new result all.2)
-    f
-
--- that of a merger
-merge_follows : (a b out : List ℕ) (c : Config) (mid new : State) (result : Outcome)
-    → merges.Follows a b out c mid new result
-    → Touches (Some out) 2 mid new
-merge_follows a b out c mid new result f =
-    let touches = work_touches (merge_work c) (Into out) (names_of a b) in
-    runs_touch (merges.Ends a b out c) (merges.StopsSo a b out c) merges.merge_line merge_cause (Some out) 2
-    (λ x y stop s. touches x y (Err stop) s) (λ x y ran r. touches x y (Ok ran) r.0) mid new result f
-
--- that of a mender
-mend_follows : (out : List ℕ) (ins : List (List ℕ)) (c : Config) (mid new : State) (result : Outcome)
-    → mends.Follows out ins c mid new result → Touches (Some out) (length ins) mid new
-mend_follows out ins c mid new result f =
-    let touches = work_touches (mend_work c (length ins)) (Into out) ins in
-    runs_touch (mends.Ends out ins c) (mends.StopsSo out ins c) mends.mend_line mend_cause (Some out) (length ins)
-    (λ x y stop s. touches x y (Err stop) s) (λ x y ran r. touches x y (Ok ran) r.0) mid new result f
-
--- that of a swapper
-swap_follows : (id : ℕ) (t2mi file out : List ℕ) (c : Config) (mid new : State) (result : Outcome)
-    → swaps.Follows id t2mi file out c mid new result → Touches (Some out) 2 mid new
-swap_follows id t2mi file out c mid new result f = ⊎_elim
-    (λ none. untouched (Some out) 2 mid new none.1)
-    (λ all.
-    let touches = work_touches (swap_work c all.0) (Into out) (names_of t2mi file) in
-    runs_touch (swaps.Ends t2mi file out c all.0) (swaps.StopsSo t2mi file out c all.0) swaps.swap_line swap_cause
-    (Some out) 2 (λ a b stop s. touches a b (Err stop) s) (λ a b ran r. touches a b (Ok ran) r.0) mid new result all.2)
-    f
-
--- that of a comparison
-compare_follows : (a b : List ℕ) (c : Config) (mid new : State) (result : Outcome)
-    → compares.Follows a b c mid new result
-    → Touches None 2 mid new
-compare_follows a b c mid new result f = work_touches (compare_work c) Aloud (names_of a b) mid new f.0 f.1
+-- so too if its line is told
+runs_touch : {R E : Type 0} (work : Work R E) (out : List ℕ) (ins : List (List ℕ))
+    (Ends : State → State → R → Type 0) (Stops : State → State → RunStop E → Type 0) (line : R → List ℕ)
+    (cause : E → Outcome)
+    → ((a b : State) (stop : RunStop E) → Stops a b stop → RunEnds work a b (Into out) ins (Err stop))
+    → ((a b : State) (ran : R) → Ends a b ran → RunEnds work a b (Into out) ins (Ok ran))
+    → (mid new : State) (result : Outcome) → RunsAndTells Ends Stops line cause mid new result
+    → Touches (Some out) (length ins) mid new
+runs_touch work out ins Ends Stops line cause stopped ended mid new result r = ⊎_elim
+    (λ s. work_touches work (Into out) ins mid new (Err s.0) (stopped mid new s.0 s.1))
+    (λ a. told (Some out) (length ins) mid a.1 new (line a.0) result
+    (work_touches work (Into out) ins mid a.1 (Ok a.0) (ended mid a.1 a.0 a.2)) a.3) r
 
 -- a file that is shown
 file_read : (old new : State) (name : List ℕ) (given : ℕ) (texts : List (List ℕ)) (result : Result ℕ (RunStop ShowStop))
@@ -368,23 +301,41 @@ only_out_changes (Plan config) old new result does = plan_touches old new config
 only_out_changes (Gateway sharing config out ins) old new result does =
     let more : 1 + length ins ≡ suc (length ins) = omega arith in
     subst (λ (n : ℕ). Touches (Some out) n old new) more
-    (plan_then (gateways.Follows sharing out ins) (Some out) (length ins) (gateway_follows sharing out ins)
-    old new config result does)
+    (plan_then (gateways.Follows sharing out ins) (Some out) (length ins)
+    (λ c mid after end f. ⊎_elim (λ none. untouched (Some out) (length ins) mid after none.0)
+    (λ all. runs_touch (gateway_work sharing c) out ins (gateways.Ends sharing out ins c)
+    (gateways.StopsSo sharing out ins c) gateways.gateway_line gateway_cause (λ a b stop s. s) (λ a b ran e. e)
+    mid after end all.1) f) old new config result does)
 only_out_changes (Modulate config file out) old new result does =
-    plan_then (modulates.Follows file out) (Some out) 1 (modulate_follows file out) old new config result does
+    plan_then (modulates.Follows file out) (Some out) 1
+    (λ c. runs_touch (modulate_work c) out (file ∷ []) (modulates.Ends file out c) (modulates.StopsSo file out c)
+    modulates.modulate_line modulate_cause (λ a b stop s. s.0) (λ a b ran e. e.0)) old new config result does
 only_out_changes (Receive sharing config id file out) old new result does =
-    plan_then (receives.Follows sharing id file out) (Some out) 1 (receive_follows sharing id file out)
-    old new config result does
+    plan_then (receives.Follows sharing id file out) (Some out) 1
+    (λ c mid after end f. ⊎_elim (λ none. untouched (Some out) 1 mid after none.1)
+    (λ all. runs_touch (receive_work (joined_with sharing c all.0) c all.0) out (file ∷ [])
+    (receives.Ends sharing file out c all.0) (receives.StopsSo sharing file out c all.0) receive_line receive_cause
+    (λ a b stop s. s) (λ a b ran e. e.0) mid after end all.2) f) old new config result does
 only_out_changes (Merge config a b out) old new result does =
-    plan_then (merges.Follows a b out) (Some out) 2 (merge_follows a b out) old new config result does
+    plan_then (merges.Follows a b out) (Some out) 2
+    (λ c. runs_touch (merge_work c) out (names_of a b) (merges.Ends a b out c) (merges.StopsSo a b out c)
+    merges.merge_line merge_cause (λ x y stop s. s) (λ x y ran e. e.0)) old new config result does
 only_out_changes (Mend config out ins) old new result does =
     let more : 1 + length ins ≡ suc (length ins) = omega arith in
     subst (λ (n : ℕ). Touches (Some out) n old new) more
-    (plan_then (mends.Follows out ins) (Some out) (length ins) (mend_follows out ins) old new config result does)
+    (plan_then (mends.Follows out ins) (Some out) (length ins)
+    (λ c. runs_touch (mend_work c (length ins)) out ins (mends.Ends out ins c) (mends.StopsSo out ins c)
+    mends.mend_line mend_cause (λ a b stop s. s) (λ a b ran e. e.0)) old new config result does)
 only_out_changes (Swap config id t2mi file out) old new result does =
-    plan_then (swaps.Follows id t2mi file out) (Some out) 2 (swap_follows id t2mi file out) old new config result does
+    plan_then (swaps.Follows id t2mi file out) (Some out) 2
+    (λ c mid after end f. ⊎_elim (λ none. untouched (Some out) 2 mid after none.1)
+    (λ all. runs_touch (swap_work c all.0) out (names_of t2mi file) (swaps.Ends t2mi file out c all.0)
+    (swaps.StopsSo t2mi file out c all.0) swaps.swap_line swap_cause (λ a b stop s. s) (λ a b ran e. e.0)
+    mid after end all.2) f) old new config result does
 only_out_changes (Compare config a b) old new result does =
-    plan_then (compares.Follows a b) None 2 (compare_follows a b) old new config result does
+    plan_then (compares.Follows a b) None 2
+    (λ c mid after end f. work_touches (compare_work c) Aloud (names_of a b) mid after f.0 f.1)
+    old new config result does
 only_out_changes (Trial seed frames) old new result does = trial_touches old new seed frames result does
 
 -- its last line changes nothing of that

@@ -1,7 +1,7 @@
 use Rattle.std.proofs.Common.{refl, sym, ◌∙◌, inl, inr, arith}
 use Rattle.std.proofs.lemmas.Result.{on_ok_weaker, on_err_weaker, err_from_is_err_and}
 use Rattle.file_run.proofs.DrainLemmas.{drained_none, drained_some, drained_more, drained_all, drained_short}
-use Rattle.file_run.proofs.DrainLemmas.{gave_first, waits_first, came_on}
+use Rattle.file_run.proofs.DrainLemmas.{gave_first, waits_first}
 use Rattle.file_run.proofs.draining.drain.Goals as goal
 
 pub loop-desk-init : goal.loop-desk-init
@@ -59,6 +59,3 @@ returns-clause-gives g c =
 pub returns-clause-dry : goal.returns-clause-dry
 returns-clause-dry g c = on_ok_weaker c.flush.result (λ a e. c.in_default.not-Give (c.step.ensures.next ∙ e))
     c.flush.ensures.ok
-
-pub take_from-requires-clause-came : goal.take_from-requires-clause-came
-take_from-requires-clause-came g c = ∣ came_on _ _ _ _ _ _ _ c.requires.came c.loop-desk.invariant.part ∣₁

@@ -1,6 +1,6 @@
 use Rattle.std.proofs.Common.{rules, ap, length, ◌∙◌}
 use Rattle.file_run.specs.Reading.{Reading}
-use Rattle.file_run.proofs.FeedLemmas.{finished, none_since, fed_by, ended_by, room_for}
+use Rattle.file_run.proofs.FeedLemmas.{finished, none_since, fed_by, ended_by}
 use Rattle.file_run.proofs.feeding.feed.Goals as goal
 
 pub returns-then-branch-clause-feeds : goal.returns-then-branch-clause-feeds
@@ -16,14 +16,3 @@ returns-else-branch-clause-feeds g c =
     ended_by _ _ _ _ _ _ c.read_until.new.self _ _ _ _ c.as_bytes-else-branch.ensures
     (ap length c.as_bytes-count.ensures) none c.read_until.ensures.reads.handle (search rules)
     (c.finish.ensures ∙ ap (λ (r : Reading). finished r) c.skip-else-branch.ensures.taken) c.end_input.ensures.becomes
-
-pub feed-count-requires-clause-room : goal.feed-count-requires-clause-room
-feed-count-requires-clause-room g c =
-    room_for _ _ _ _ _ _ c.read_until.new.self _ c.as_bytes.ensures c.read_until.ensures.none
-    c.in_ok-read_until.ensures.short
-    c.requires.reader
-
-pub end_input-requires-clause-room : goal.end_input-requires-clause-room
-end_input-requires-clause-room g c =
-    room_for _ _ _ _ _ _ c.read_until.new.self _ c.as_bytes-else-branch.ensures c.read_until.ensures.none
-    c.in_ok-read_until.ensures.short c.requires.reader

@@ -1,10 +1,8 @@
 use Rattle.std.proofs.Common.{refl, sym, ◌∙◌, arith}
 use Rattle.file_run.specs.Running.{start_of}
 use Rattle.file_run.specs.Sink.{sink_of}
-use Rattle.file_run.proofs.FedLemmas.{less_left}
 use Rattle.file_run.proofs.RunningLemmas.{running_first, running_drained, stopped_drained, running_fed, stopped_fed}
-use Rattle.file_run.proofs.RunningLemmas.{run_all, at_end, not_ended, can_go_on, reader_of, place_first, is_open}
-use Rattle.file_run.proofs.RunningLemmas.{stays_open, running_came, came_fed}
+use Rattle.file_run.proofs.RunningLemmas.{run_all, at_end, place_first}
 use Rattle.file_run.proofs.running.run.Goals as goal
 
 pub returns-in-Err-clause-err : goal.returns-in-Err-clause-err
@@ -36,11 +34,6 @@ loop-input-init g c =
       dry = c.in-Ok.ensures.dry;
       nothing = c.in-Ok.ensures.nothing;
     }
-
-pub drain-requires-in-Read-clause-open : goal.drain-requires-in-Read-clause-open
-drain-requires-in-Read-clause-open g c =
-    stays_open c.in_ok-out.out _ _ c.feed.ensures.reads.created
-    (is_open _ g.M.Machine.reach _ _ _ _ _ c.loop-input.invariant.place c.loop-input.invariant.running)
 
 pub loop-input-preserved : goal.loop-input-preserved
 loop-input-preserved g c =
@@ -97,36 +90,3 @@ returns-clause-ok g c = run_all _ _ g.M.Machine.reach _ _ _ c.loop-input.invaria
 pub returns-clause-end : goal.returns-clause-end
 returns-clause-end g c = at_end (g.M.Machine.next c.loop-input.machine) c.loop-input.invariant.dry
     (λ input least most e. c.in_default.not-Read input least most (c.step.ensures.next ∙ e))
-
-pub loop-input-smaller : goal.loop-input-smaller
-loop-input-smaller g c =
-    let w = c.in-Read.ensures.wanted _ _ c.loop-input.invariant.running.came in
-    less_left c.loop-input.readers c.in-Read.input _ c.feed.new.reader c.index-readers-input.result
-    (omega (arith, w.place, c.requires.inputs, c.loop-input.invariant.running.runs.reached.all)) refl
-    c.in-Ok-feed.ensures.fewer
-
-pub feed-requires-clause-is_open : goal.feed-requires-clause-is_open
-feed-requires-clause-is_open g c =
-    let w = c.in-Read.ensures.wanted _ _ c.loop-input.invariant.running.came in
-    not_ended _ g.M.Machine.reach _ _ _ _ _ _
-    (omega (arith, w.place, c.requires.inputs, c.loop-input.invariant.running.runs.reached.all))
-    c.loop-input.invariant.running w.is_open
-
-pub feed-requires-clause-going : goal.feed-requires-clause-going
-feed-requires-clause-going g c =
-    let w = c.in-Read.ensures.wanted _ _ c.loop-input.invariant.running.came in
-    can_go_on _ g.M.Machine.reach _ _ _ _ _ _
-    (omega (arith, w.place, c.requires.inputs, c.loop-input.invariant.running.runs.reached.all))
-    c.loop-input.invariant.running w.is_open
-
-pub feed-requires-clause-reader : goal.feed-requires-clause-reader
-feed-requires-clause-reader g c =
-    let w = c.in-Read.ensures.wanted _ _ c.loop-input.invariant.running.came in
-    reader_of g.M.Machine.Becomes c.args.machine.now g.M.Machine.reach _ _ _ _ _ _
-    (omega (arith, w.place, c.requires.inputs, c.loop-input.invariant.running.runs.reached.all))
-    c.loop-input.invariant.running
-
-pub drain-requires-in-Read-clause-came : goal.drain-requires-in-Read-clause-came
-drain-requires-in-Read-clause-came g c =
-    came_fed _ _ _ _ _ _ _ _ (running_came _ _ g.M.Machine.reach _ _ _ _ c.loop-input.invariant.running)
-    c.in-Ok-feed.ensures.feeds

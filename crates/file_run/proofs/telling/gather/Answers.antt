@@ -27,6 +27,3 @@ returns-in_err-make_room-clause-err g c =
           (c.loop-desk.invariant.telling begin start name r t),
       c.in_err-make_room.ensures.some,
     ))
-
-pub take_from-requires-clause-came : goal.take_from-requires-clause-came
-take_from-requires-clause-came g c = ∣ c.loop-desk.invariant.came ∣₁

@@ -1,4 +1,4 @@
-use Rattle.std.proofs.Common.{◌≡◌, ◌-◌, ◌++◌, ℕ, List, Some, false, length, take, drop, ap, sym, subst, ◌∙◌, arith}
+use Rattle.std.proofs.Common.{◌≡◌, ◌-◌, ◌++◌, ℕ, List, Some, true, false, length, take, drop, ap, sym, ◌∙◌, arith}
 use Rattle.std.proofs.Common.{append_assoc, length-drop}
 use Rattle.std.specs.Prelude.{slice_get, slice_index_or}
 use Rattle.std.proofs.lemmas.List.{length-take, take-append-drop}
@@ -7,12 +7,11 @@ use Rattle.plp_config.specs.declared.config.Config.{Config}
 use Rattle.frame_groups.specs.Modulated.{Rules}
 use Rattle.frame_groups.specs.Tests.{rules}
 use Rattle.feed_events.specs.FeedEvents.{feed_events}
-use Rattle.feed_events.specs.StandsFor.{EventFeedStandsFor, has_ended}
-use Rattle.frame_weave.specs.contracts.group.MarkedGroupOpenGroup.TheImpl as marked
+use Rattle.feed_events.specs.StandsFor.{has_ended}
 use Rattle.mended_frames.specs.StandsFor.{Feed}
 use Rattle.file_run.specs.Events.{fed}
 use Rattle.file_run.specs.Events as events
-use Rattle.mend_run.proofs.FeedLemmas.{goes_ended, has_now, part_none}
+use Rattle.mend_run.proofs.FeedLemmas.{goes_back, has_now, part_none}
 use Rattle.mend_run.proofs.RowLemmas.{go_on, fed_set, of_set, known_at}
 use Rattle.mend_run.proofs.row.end_one.Goals as goal
 
@@ -28,10 +27,9 @@ returns-clause-goes c = λ k count done gone come.
     let going : has_ended f ≡ false = (f.settled (sym (known_at feeds input f is) ∙ c.requires.unknown)).2 in
     go_on k count feeds input f g done _ gone is (λ i apart. (t.others i apart, t.others_ended i apart))
     (λ h. has_now k f g (fed input done) _ (events.has_ended input done) _ (gone input) h c.finish.ensures.rules
-    (λ s. subst (λ (l : List ℕ). EventFeedStandsFor marked.ghosts g l (gone input)) (sym t.here)
+    (λ s. rw t.here
     (c.finish.ensures.stands (fed input done) (gone input) s)) (c.finish.ensures.ended ∙ sym t.ended) c.look.ensures)
-    (λ x y go. goes_ended k f g (fed input done) c.args.tail.now _ (gone input) t.here going c.finish.ensures.ended
-    x y go)
+    (goes_back k f g (fed input done) c.args.tail.now _ (gone input) t.here going true c.finish.ensures.ended)
     (λ h.
     let tail = c.args.tail.now in
     let n = length tail - 1 in

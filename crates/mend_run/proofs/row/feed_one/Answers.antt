@@ -1,4 +1,4 @@
-use Rattle.std.proofs.Common.{◌≡◌, ◌+◌, ◌-◌, ◌++◌, ℕ, List, Some, false, take, drop, ap, sym, subst, ◌∙◌, arith}
+use Rattle.std.proofs.Common.{◌≡◌, ◌+◌, ◌-◌, ◌++◌, ℕ, List, Some, false, take, drop, ap, sym, ◌∙◌, arith}
 use Rattle.std.proofs.Common.{append_assoc}
 use Rattle.std.specs.Prelude.{slice_get, slice_index_or}
 use Rattle.std.proofs.Math.Seq.{take-add}
@@ -8,12 +8,11 @@ use Rattle.plp_config.specs.declared.config.Config.{Config}
 use Rattle.frame_groups.specs.Modulated.{Rules}
 use Rattle.frame_groups.specs.Tests.{rules}
 use Rattle.feed_events.specs.FeedEvents.{feed_events}
-use Rattle.feed_events.specs.StandsFor.{EventFeedStandsFor, has_ended}
-use Rattle.frame_weave.specs.contracts.group.MarkedGroupOpenGroup.TheImpl as marked
+use Rattle.feed_events.specs.StandsFor.{has_ended}
 use Rattle.mended_frames.specs.StandsFor.{Feed}
 use Rattle.file_run.specs.Events.{fed}
 use Rattle.file_run.specs.Events as events
-use Rattle.mend_run.proofs.FeedLemmas.{goes_fed, has_now}
+use Rattle.mend_run.proofs.FeedLemmas.{goes_back, has_now}
 use Rattle.mend_run.proofs.RowLemmas.{go_on, fed_set, of_set, known_at}
 use Rattle.mend_run.proofs.row.feed_one.Goals as goal
 
@@ -30,11 +29,12 @@ returns-clause-goes c = λ k count done gone come.
     let going : has_ended f ≡ false = (f.settled (sym (known_at feeds input f is) ∙ c.requires.unknown)).2 in
     go_on k count feeds input f g done _ gone is (λ i apart. (t.others i apart, t.ended i))
     (λ h. has_now k f g (fed input done) _ (events.has_ended input done) _ (gone input) h took.rules
-    (λ s. subst (λ (l : List ℕ). EventFeedStandsFor marked.ghosts g l (gone input)) (sym t.here)
+    (λ s. rw t.here
     (took.stands (fed input done) (gone input) s)) (took.ended ∙ h.end
     ∙ sym (t.ended input)) c.look.ensures)
-    (λ x y go. goes_fed k f g (fed input done) (take c.take_units-count.result c.args.bytes.now) _ (gone input)
-    t.here going took.ended x y go)
+    (goes_back k f g (fed input done) (take c.take_units-count.result c.args.bytes.now) _ (gone input) t.here going
+    false
+    (took.ended ∙ going))
     (λ h.
     let n = c.take_units-count.result in
     let bytes = c.args.bytes.now in

@@ -1,6 +1,4 @@
-use Rattle.std.proofs.Common.{◌+◌, [], List, sym, subst}
-use Rattle.mended_frames.specs.StandsFor.{Feed, AreOf}
-use Rattle.mend_run.specs.Row.{HaveCome}
+use Rattle.mended_frames.specs.StandsFor.{Feed}
 use Rattle.mend_run.proofs.RowLemmas.{come_pushed, of_pushed}
 use Rattle.mend_run.proofs.row.open_feeds.Goals as goal
 
@@ -10,8 +8,8 @@ loop-preserved c =
     let feeds = c.loop.feeds.items in
     let f : Feed = c.in_ok-open_feed.field-0 in
     record {
-      come = subst (λ (l : List Feed). HaveCome k (c.loop.counter + 1) l [] (λ i. [])) (sym c.in_ok-push.ensures.items)
+      come = rw c.in_ok-push.ensures.items
           (come_pushed k c.loop.counter feeds f c.loop.invariant.come c.in_ok-open_feed.ensures);
-      of = subst (AreOf k) (sym c.in_ok-push.ensures.items) (of_pushed k feeds f c.loop.invariant.of
+      of = rw c.in_ok-push.ensures.items (of_pushed k feeds f c.loop.invariant.of
           c.in_ok-open_feed.ensures);
     }

@@ -1,14 +1,11 @@
-use Rattle.std.proofs.Common.{◌≡◌, ◌∙◌, ◌++◌, [], ◌*◌, ◌+◌, ◌≤◌, ℕ, List, length, ap, sym, subst}
+use Rattle.std.proofs.Common.{◌≡◌, ◌∙◌, ap, sym}
 use Rattle.plp_config.specs.declared.config.Config.{Config}
-use Rattle.t2mi_packet.specs.declared.packet.Body.{Body}
 use Rattle.modulator.specs.StandsFor.{records_due}
-use Rattle.frame_writer.specs.Carried.{of_frame}
-use Rattle.frame_writer.specs.Flowing.{packet_bound}
-use Rattle.stream_laws.specs.Remade.{remade_bodies, view_bodies}
+use Rattle.stream_laws.specs.Remade.{remade_bodies}
 use Rattle.open_group.specs.Shown.{Shows}
 use Rattle.frame_writer.specs.Left.{bodies_of}
 use Rattle.feed_merge.specs.Frames.{dynamic_of, lists_of}
-use Rattle.feed_merge.specs.StandsFor.{MergerStandsFor, config_of, left_in, bytes_left}
+use Rattle.feed_merge.specs.StandsFor.{config_of, left_in}
 use Rattle.merge_run.specs.Sending.{frame_by, left_for}
 use Rattle.merge_run.proofs.FrameLemmas.{pushed, sent}
 use Rattle.merge_run.proofs.UnitLemmas.{left_is, sent_in}
@@ -28,28 +25,15 @@ returns c = record {
       let is = c.frame-frame.ensures.is in
       let due = ap (λ (k : Config). records_due k ended bytes) net ∙ all in
       let shows : Shows k g.packets (dynamic_of feed) (lists_of feed) =
-      subst (λ (k : Config). Shows k g.packets (dynamic_of feed) (lists_of feed)) net
-      (c.frame-frame.ensures.shows bytes ended given s x later due g content) in
+      rw net at (c.frame-frame.ensures.shows bytes ended given s x later due g content) in
       let bodies = sent c.due_records_law.ensures.pass c.shown_law.ensures k ended bytes given x later g f feed plan all
       content shows net is in
       let left : left_in new f ≡ left_for new feed = left_is new feed f is (net ∙ sym c.frame.ensures.config) in
       record {
         stands = λ frames count h.
-            subst (λ (l : List (ℕ × Body)). MergerStandsFor new (left_for new feed) l count)
-            (pushed k frames (frame_by k x) (bodies_of k x.number f) bodies)
-            (subst (λ (n : ℕ). MergerStandsFor new (left_for new feed) (remade_bodies k frames
-            ++ of_frame n (bodies_of k n f)) count)
-            (sym number)
-            (subst (λ (l : List Body). MergerStandsFor new l (remade_bodies k frames ++ of_frame c.args.number
-            (bodies_of k c.args.number f)) count)
-            left (c.frame.ensures.stands (remade_bodies k frames) count h)));
-        more = subst (λ (l : List Body). bytes_left new l
-            ≤ bytes_left old [] + packet_bound * length (view_bodies k x.number (frame_by k x).view)) left
-            (subst (λ (l : List Body). bytes_left new (left_in new f) ≤ bytes_left old [] + packet_bound * length l)
-            bodies
-            (subst (λ (n : ℕ). bytes_left new (left_in new f) ≤ bytes_left old [] + packet_bound * length
-            (bodies_of k n f)) (sym number)
-            c.frame.ensures.more));
+            rw (← pushed k frames (frame_by k x) (bodies_of k x.number f) bodies, ← left, number)
+            (c.frame.ensures.stands (remade_bodies k frames) count h);
+        more = rw (← left, ← bodies, number) c.frame.ensures.more;
       };
   config = c.frame.ensures.config;
   finished = c.frame.ensures.finished;

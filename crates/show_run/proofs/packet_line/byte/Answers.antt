@@ -16,11 +16,6 @@ overflow_cast-result-else-left-ge8 c =
     (omega arith) in
     omega (arith, h)
 
-pub returns-then-left-ge8 : goal.returns-then-left-ge8
-returns-then-left-ge8 c =
-    let none : 8 - length (drop (8 * c.args.k) c.args.bits.now) ≡ 0 = simp length-drop (omega arith) in
-    rw none (omega (arith, c.field.ensures.value))
-
 pub returns-else-left-ge8 : goal.returns-else-left-ge8
 returns-else-left-ge8 c =
     let left : ℕ = c.len.result - 8 * c.args.k in

@@ -2,7 +2,8 @@ use Rattle.std.proofs.Common.{refl}
 use Rattle.std.proofs.lemmas.Result.{err_from_is_err_and}
 use Rattle.show_run.specs.PacketText.{IsPacketText}
 use Rattle.show_run.proofs.PacketLinesLemmas.{comes_first}
-use Rattle.show_run.proofs.ShowLemmas.{shows_none, shows_end, shows_stop}
+use Rattle.show_run.proofs.ShowLemmas.{shows_end, shows_stop}
+use Rattle.show_run.proofs.ToldLemmas.{shows_none}
 use Rattle.show_run.proofs.show.show_packets.Goals as goal
 
 pub returns-in_default : goal.returns-in_default

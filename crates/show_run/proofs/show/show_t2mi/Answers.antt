@@ -1,16 +1,12 @@
 use Rattle.std.proofs.Common.{refl}
 use Rattle.std.proofs.lemmas.Result.{err_from_is_err_and}
 use Rattle.show_run.specs.T2miText.{IsT2miText}
-use Rattle.show_run.proofs.ShowLemmas.{shows_none}
-use Rattle.show_run.proofs.T2miLinesLemmas.{comes_first}
+use Rattle.show_run.proofs.ToldLemmas.{shows_none}
 use Rattle.show_run.proofs.T2miShowLemmas.{t2mi_end, t2mi_stop}
 use Rattle.show_run.proofs.show.show_t2mi.Goals as goal
 
 pub returns-in_default : goal.returns-in_default
 returns-in_default g c = shows_none IsT2miText (λ file. refl) _ _ c.args.name.now refl
-
-pub tell_lines-told-requires-clause-start : goal.tell_lines-told-requires-clause-start
-tell_lines-told-requires-clause-start g c = comes_first _ c.in-Ok.ensures
 
 pub returns-in_err-told : goal.returns-in_err-told
 returns-in_err-told g c =

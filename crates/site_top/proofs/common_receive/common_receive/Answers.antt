@@ -2,13 +2,12 @@ use Rattle.std.proofs.Common.{inr, [], ◌∷◌}
 use Rattle.common_plp.specs.Groups.{common_of}
 use Rattle.common_plp.specs.Sharing.{Joint}
 use Rattle.site_top.specs.Outcomes.{receive_cause}
-use Rattle.file_run.specs.Work.{Ends as RunEnds, Into}
 use Rattle.receive_run.specs.JoinedRun.{receive_work}
 use Rattle.site_top.specs.ReceiveCommand.{receive_line}
 use Rattle.site_top.specs.Reception.{Ends, StopsSo}
 use Rattle.site_top.proofs.GatewayLemmas.{other_name}
 use Rattle.site_top.proofs.JoinedLemmas.{holds_joined}
-use Rattle.site_top.proofs.PlanCommandLemmas.{run_told, of_ok, of_err}
+use Rattle.site_top.proofs.PlanCommandLemmas.{run_told}
 use Rattle.site_top.proofs.common_receive.common_receive.Goals as goal
 
 pub run_joined-end-requires : goal.run_joined-end-requires
@@ -29,14 +28,9 @@ returns g c =
       inr (
         _,
         at,
-        run_told (Ends Joint file out plan _) (StopsSo Joint file out plan _) receive_line receive_cause _ _ _ _ _
-            (of_ok (RunEnds (receive_work (common_of plan _) plan _) _ _ (Into out) (file ∷ []))
-            (Ends Joint file out plan _ _ _) _
-            (λ ran r. (r, holds_joined plan _ _ _ file out ran c.joined_law.ensures at.place.inside r))
-            c.run_joined-end.ensures.ends)
-            (of_err (RunEnds (receive_work (common_of plan _) plan _) _ _ (Into out) (file ∷ []))
-            (StopsSo Joint file out plan _ _ _) _
-            (λ stop s. s) c.run_joined-end.ensures.ends)
-            c.tell_run.ensures.ok c.tell_run.ensures.err,
+        run_told (receive_work (common_of plan _) plan _) out (file ∷ []) (Ends Joint file out plan _)
+            (StopsSo Joint file out plan _) receive_line receive_cause _ _ _ _ _
+            (λ ran r. (r, holds_joined plan _ _ _ file out ran c.joined_law.ensures at.place.inside r)) (λ stop s. s)
+            c.run_joined-end.ensures.ends c.tell_run.ensures.ok c.tell_run.ensures.err,
       ),
     )

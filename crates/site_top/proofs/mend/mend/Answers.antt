@@ -1,11 +1,10 @@
 use Rattle.std.proofs.Common.{inr, length}
-use Rattle.file_run.specs.Work.{Ends as RunEnds, Into}
 use Rattle.mend_run.specs.MendRun.{mend_work}
 use Rattle.site_top.specs.MendCommand.{Ends, StopsSo, mend_line}
 use Rattle.site_top.specs.Outcomes.{mend_cause}
 use Rattle.site_top.proofs.GatewayLemmas.{apart}
 use Rattle.site_top.proofs.MendLemmas.{holds_mended}
-use Rattle.site_top.proofs.PlanCommandLemmas.{run_told, of_ok, of_err}
+use Rattle.site_top.proofs.PlanCommandLemmas.{run_told}
 use Rattle.site_top.proofs.mend.mend.Goals as goal
 
 pub run-end-requires : goal.run-end-requires
@@ -21,10 +20,7 @@ returns g c =
       _,
       c.in-Ok.ensures.ok.0,
       c.in-Ok.ensures.ok.1,
-      run_told (Ends out ins plan) (StopsSo out ins plan) mend_line mend_cause _ _ _ _ _
-          (of_ok (RunEnds (mend_work plan (length ins)) _ _ (Into out) ins) (Ends out ins plan _ _) _
-          (λ ran r. (r, holds_mended plan _ _ ins out ran c.mended_law.ensures r)) c.run-end.ensures.ends)
-          (of_err (RunEnds (mend_work plan (length ins)) _ _ (Into out) ins) (StopsSo out ins plan _ _) _ (λ stop s. s)
-          c.run-end.ensures.ends)
-          c.tell_run.ensures.ok c.tell_run.ensures.err,
+      run_told (mend_work plan (length ins)) out ins (Ends out ins plan) (StopsSo out ins plan) mend_line mend_cause
+          _ _ _ _ _ (λ ran r. (r, holds_mended plan _ _ ins out ran c.mended_law.ensures r)) (λ stop s. s)
+          c.run-end.ensures.ends c.tell_run.ensures.ok c.tell_run.ensures.err,
     )

@@ -1,12 +1,11 @@
 use Rattle.std.proofs.Common.{inr}
-use Rattle.file_run.specs.Work.{Ends as RunEnds, Into}
 use Rattle.feed_merge.specs.Fed.{names_of}
 use Rattle.merge_run.specs.MergeRun.{merge_work}
 use Rattle.site_top.specs.MergeCommand.{Ends, StopsSo, merge_line}
 use Rattle.site_top.specs.Outcomes.{merge_cause}
 use Rattle.site_top.proofs.GatewayLemmas.{other_name}
 use Rattle.site_top.proofs.MergeLemmas.{holds_merged}
-use Rattle.site_top.proofs.PlanCommandLemmas.{run_told, of_ok, of_err}
+use Rattle.site_top.proofs.PlanCommandLemmas.{run_told}
 use Rattle.site_top.proofs.merge.merge.Goals as goal
 
 pub run-end-requires : goal.run-end-requires
@@ -26,10 +25,7 @@ returns g c =
       _,
       c.in-Ok.ensures.ok.0,
       c.in-Ok.ensures.ok.1,
-      run_told (Ends a b out plan) (StopsSo a b out plan) merge_line merge_cause _ _ _ _ _
-          (of_ok (RunEnds (merge_work plan) _ _ (Into out) (names_of a b)) (Ends a b out plan _ _) _
-          (λ ran r. (r, holds_merged plan _ _ a b out ran c.merged_law.ensures r)) c.run-end.ensures.ends)
-          (of_err (RunEnds (merge_work plan) _ _ (Into out) (names_of a b)) (StopsSo a b out plan _ _)
-          _ (λ stop s. s) c.run-end.ensures.ends)
-          c.tell_run.ensures.ok c.tell_run.ensures.err,
+      run_told (merge_work plan) out (names_of a b) (Ends a b out plan) (StopsSo a b out plan) merge_line merge_cause
+          _ _ _ _ _ (λ ran r. (r, holds_merged plan _ _ a b out ran c.merged_law.ensures r)) (λ stop s. s)
+          c.run-end.ensures.ends c.tell_run.ensures.ok c.tell_run.ensures.err,
     )

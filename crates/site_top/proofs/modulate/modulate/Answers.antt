@@ -1,10 +1,9 @@
 use Rattle.std.proofs.Common.{inr, [], ◌∷◌}
-use Rattle.file_run.specs.Work.{Ends as RunEnds, Into}
 use Rattle.modulate_run.specs.ModulateRun.{modulate_work}
 use Rattle.site_top.specs.ModulateCommand.{Ends, StopsSo, modulate_line}
 use Rattle.site_top.specs.Outcomes.{modulate_cause}
 use Rattle.site_top.proofs.GatewayLemmas.{other_name}
-use Rattle.site_top.proofs.PlanCommandLemmas.{run_told, of_ok, of_err}
+use Rattle.site_top.proofs.PlanCommandLemmas.{run_told}
 use Rattle.site_top.proofs.SurvivorLemmas.{holds_records, stops_with}
 use Rattle.site_top.proofs.modulate.modulate.Goals as goal
 
@@ -22,10 +21,8 @@ returns g c =
       _,
       c.in-Ok.ensures.ok.0,
       c.in-Ok.ensures.ok.1,
-      run_told (Ends file out plan) (StopsSo file out plan) modulate_line modulate_cause _ _ _ _ _
-          (of_ok (RunEnds (modulate_work plan) _ _ (Into out) (file ∷ [])) (Ends file out plan _ _) _
-          (λ ran r. (r, holds_records plan _ _ file out ran law.honest law.undamaged r)) c.run-end.ensures.ends)
-          (of_err (RunEnds (modulate_work plan) _ _ (Into out) (file ∷ [])) (StopsSo file out plan _ _) _
-          (λ stop s. (s, stops_with plan _ _ file out stop law.honest law.undamaged s)) c.run-end.ensures.ends)
-          c.tell_run.ensures.ok c.tell_run.ensures.err,
+      run_told (modulate_work plan) out (file ∷ []) (Ends file out plan) (StopsSo file out plan) modulate_line
+          modulate_cause _ _ _ _ _ (λ ran r. (r, holds_records plan _ _ file out ran law.honest law.undamaged r))
+          (λ stop s. (s, stops_with plan _ _ file out stop law.honest law.undamaged s))
+          c.run-end.ensures.ends c.tell_run.ensures.ok c.tell_run.ensures.err,
     )

@@ -1,12 +1,11 @@
 use Rattle.std.proofs.Common.{inr, [], ◌∷◌, None}
 use Rattle.site_top.specs.Outcomes.{receive_cause}
 use Rattle.common_plp.specs.Sharing.{Apart}
-use Rattle.file_run.specs.Work.{Ends as RunEnds, Into}
 use Rattle.receive_run.specs.JoinedRun.{receive_work}
 use Rattle.site_top.specs.ReceiveCommand.{receive_line}
 use Rattle.site_top.specs.Reception.{Ends, StopsSo}
 use Rattle.site_top.proofs.GatewayLemmas.{other_name}
-use Rattle.site_top.proofs.PlanCommandLemmas.{run_told, of_ok, of_err}
+use Rattle.site_top.proofs.PlanCommandLemmas.{run_told}
 use Rattle.site_top.proofs.RecoverLemmas.{holds_back}
 use Rattle.site_top.proofs.receive.receive.Goals as goal
 
@@ -31,12 +30,9 @@ returns g c =
       inr (
         _,
         at,
-        run_told (Ends Apart file out plan _) (StopsSo Apart file out plan _) receive_line receive_cause _ _ _ _ _
-            (of_ok (RunEnds (receive_work None plan _) _ _ (Into out) (file ∷ [])) (Ends Apart file out plan _ _ _) _
-            (λ ran r. (r, holds_back plan _ _ _ file out ran c.back_law.ensures at.inside r)) c.run-end.ensures.ends)
-            (of_err (RunEnds (receive_work None plan _) _ _ (Into out) (file ∷ [])) (StopsSo Apart file out plan _ _ _)
-            _ (λ stop s. s)
-            c.run-end.ensures.ends)
-            c.tell_run.ensures.ok c.tell_run.ensures.err,
+        run_told (receive_work None plan _) out (file ∷ []) (Ends Apart file out plan _) (StopsSo Apart file out plan _)
+            receive_line receive_cause _ _ _ _ _
+            (λ ran r. (r, holds_back plan _ _ _ file out ran c.back_law.ensures at.inside r)) (λ stop s. s)
+            c.run-end.ensures.ends c.tell_run.ensures.ok c.tell_run.ensures.err,
       ),
     )

@@ -1,11 +1,10 @@
 use Rattle.std.proofs.Common.{inr}
-use Rattle.file_run.specs.Work.{Ends as RunEnds, Into}
 use Rattle.feed_merge.specs.Fed.{names_of}
 use Rattle.swap_run.specs.SwapRun.{swap_work}
 use Rattle.site_top.specs.Outcomes.{swap_cause}
 use Rattle.site_top.specs.SwapCommand.{Ends, StopsSo, swap_line}
 use Rattle.site_top.proofs.GatewayLemmas.{other_name}
-use Rattle.site_top.proofs.PlanCommandLemmas.{run_told, of_ok, of_err}
+use Rattle.site_top.proofs.PlanCommandLemmas.{run_told}
 use Rattle.site_top.proofs.SwapLemmas.{holds_swapped}
 use Rattle.site_top.proofs.swap.swap.Goals as goal
 
@@ -31,13 +30,9 @@ returns g c =
       inr (
         _,
         at,
-        run_told (Ends t2mi file out plan _) (StopsSo t2mi file out plan _) swap_line swap_cause _ _ _ _ _
-            (of_ok (RunEnds (swap_work plan _) _ _ (Into out) (names_of t2mi file)) (Ends t2mi file out plan _ _ _) _
-            (λ ran r. (r, holds_swapped plan _ _ _ t2mi file out ran at.inside c.swapped_law.ensures r))
-            c.run-end.ensures.ends)
-            (of_err (RunEnds (swap_work plan _) _ _ (Into out) (names_of t2mi file)) (StopsSo t2mi file out plan _ _ _)
-            _
-            (λ stop s. s) c.run-end.ensures.ends)
-            c.tell_run.ensures.ok c.tell_run.ensures.err,
+        run_told (swap_work plan _) out (names_of t2mi file) (Ends t2mi file out plan _) (StopsSo t2mi file out plan _)
+            swap_line swap_cause _ _ _ _ _
+            (λ ran r. (r, holds_swapped plan _ _ _ t2mi file out ran at.inside c.swapped_law.ensures r)) (λ stop s. s)
+            c.run-end.ensures.ends c.tell_run.ensures.ok c.tell_run.ensures.err,
       ),
     )

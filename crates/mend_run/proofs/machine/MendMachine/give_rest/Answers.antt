@@ -9,7 +9,7 @@ use Rattle.plp_config.specs.declared.config.Config.{Config}
 use Rattle.mend_run.specs.Shown.{Rests, Done, tally_of, with_units}
 use Rattle.mend_run.specs.declared.phase.Phase.TheVariants as phase
 use Rattle.mend_run.specs.declared.tally.Tally.{Tally}
-use Rattle.mend_run.proofs.ShownLemmas.{at_place, from_place, stands_as, shown_given, ended_given}
+use Rattle.mend_run.proofs.ShownLemmas.{at_place, from_place, stands_as, stands_by, shown_given, ended_given}
 use Rattle.mend_run.proofs.TallyLemmas.{tally_units}
 use Rattle.mend_run.proofs.machine.MendMachine.give_rest.Goals as goal
 
@@ -23,6 +23,10 @@ returns-then-rest-clause-shown c = λ k count done came.
     let same = m.sends ∙ s.plan in
     let tell = c.events_law.ensures in
     let t = tell.given one done in
+    let stands : SenderStandsFor k c.rest.new.self s.is_at.content (frames_of k s.made) (gave (done ++ Gave one ∷ [])) =
+    rw (t.gave, whole)
+    (stands_by k _ m.sender c.rest.new.self s.is_at.content (frames_of k s.made) (gave done) (gave done ++ out)
+    same (c.rest.ensures.stands c.if-rest.true s.is_at.content (frames_of k s.made) (gave done)) s.is_at.stands) in
     from_place k count (done ++ Gave one ∷ []) _ phase.Rests c.requires.rests
     (shown_given tell k count done one m _ Rests Rests s refl refl refl
     (c.add_units.ensures ∙ ap (λ (x : Tally). with_units x 1) s.tally
@@ -31,11 +35,7 @@ returns-then-rest-clause-shown c = λ k count done came.
     (record {
       ended = ended_given tell count done one s.is_at.ended;
       content = s.is_at.content;
-      stands = subst (SenderStandsFor k c.rest.new.self s.is_at.content (frames_of k s.made))
-          (ap (λ (l : List ℕ). gave done ++ l) (sym whole) ∙ sym t.gave)
-          (stands_as k _ c.rest.new.self s.is_at.content (frames_of k s.made) (gave done ++ out) same
-          (c.rest.ensures.stands c.if-rest.true s.is_at.content (frames_of k s.made) (gave done)
-          (stands_as _ k m.sender s.is_at.content (frames_of k s.made) (gave done) (sym same) s.is_at.stands)));
+      stands = stands;
     }))
 
 pub returns-clause-shown : goal.returns-clause-shown

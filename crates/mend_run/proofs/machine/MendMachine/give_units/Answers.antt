@@ -15,7 +15,7 @@ use Rattle.mend_run.specs.Shown.{HasShown, Sends, Passes, with_units}
 use Rattle.mend_run.specs.declared.phase.Phase.{Phase}
 use Rattle.mend_run.specs.declared.phase.Phase.TheVariants as phase
 use Rattle.mend_run.specs.declared.tally.Tally.{Tally}
-use Rattle.mend_run.proofs.ShownLemmas.{at_place, from_place, stands_as, shown_given}
+use Rattle.mend_run.proofs.ShownLemmas.{at_place, from_place, stands_as, stands_by, shown_given}
 use Rattle.mend_run.proofs.TallyLemmas.{tally_units}
 use Rattle.mend_run.proofs.machine.MendMachine.give_units.Goals as goal
 
@@ -37,23 +37,23 @@ returns-then-not-busy-clause-shown c = λ k count done came.
     let t = tell.given out done in
     let size = c.give-len.ensures.size in
     let inside = c.give-len.ensures.count in
-    let old = subst (λ (z : Content). SenderStandsFor d m.sender z (frames_of k s.made) (gave done)) (sym is)
-    (stands_as d k m.sender y (frames_of k s.made) (gave done) (sym same) s.is_at.stands) in
-    let new = stands_as k d c.give-len.new.self (content_of frame) (frames_of k s.made) (gave done ++ out) same
-    (c.give-len.ensures.stands (frames_of k s.made) (gave done) old) in
-    let caught = subst (λ (z : Config). HasGiven complete_units z (frames_of k s.made) (gave done ++ out)) same
-    (c.give-len.ensures.caught c.if-not-busy.true (frames_of k s.made) (gave done) old) in
+    let old : SenderStandsFor k m.sender (content_of frame) (frames_of k s.made) (gave done) = rw is s.is_at.stands in
+    let new = stands_by k d m.sender c.give-len.new.self (content_of frame) (frames_of k s.made) (gave done)
+    (gave done ++ out) same (c.give-len.ensures.stands (frames_of k s.made) (gave done)) old in
+    let stands : SenderStandsFor k c.give-len.new.self (content_of frame) (frames_of k s.made)
+    (gave (done ++ Gave out ∷ [])) =
+    rw t.gave new in
+    let caught : HasGiven complete_units k (frames_of k s.made) (gave (done ++ Gave out ∷ [])) =
+    subst (λ (z : Config). HasGiven complete_units z (frames_of k s.made) (gave (done ++ Gave out ∷ []))) same
+    (rw t.gave (c.give-len.ensures.caught c.if-not-busy.true (frames_of k s.made) (gave done)
+    (stands_as d k m.sender (content_of frame) (frames_of k s.made) (gave done) (sym same) old))) in
     c.pass.ensures.shown k count (done ++ Gave out ∷ [])
     (shown_given tell k count done out m _ (Sends n from) (Passes (Some n) true) s refl refl refl
     (c.add_units.ensures ∙ ap (λ (x : Tally). with_units x (len / SIZE)) s.tally
     ∙ tally_units s.made (gave done) out len (length-take-le len c.give-len.new.out (omega (arith, size, inside)))
     c.give-len.ensures.whole)
     (λ xs ys x. x) (
-      record {
-        content = content_of frame;
-        stands = subst (SenderStandsFor k c.give-len.new.self (content_of frame) (frames_of k s.made)) (sym t.gave) new;
-        caught = subst (HasGiven complete_units k (frames_of k s.made)) (sym t.gave) caught;
-      },
+      record { content = content_of frame; stands = stands; caught = caught },
       s.is_at.known,
     ))
 
@@ -93,10 +93,11 @@ returns-else-not-busy-clause-shown c = λ k count done came.
     let t = tell.given out done in
     let size = c.give-len.ensures.size in
     let inside = c.give-len.ensures.count in
-    let old = subst (λ (z : Content). SenderStandsFor d m.sender z (frames_of k s.made) (gave done)) (sym is)
-    (stands_as d k m.sender y (frames_of k s.made) (gave done) (sym same) s.is_at.stands) in
-    let new = stands_as k d c.give-len.new.self (content_of frame) (frames_of k s.made) (gave done ++ out) same
-    (c.give-len.ensures.stands (frames_of k s.made) (gave done) old) in
+    let old : SenderStandsFor k m.sender (content_of frame) (frames_of k s.made) (gave done) = rw is s.is_at.stands in
+    let new = stands_by k d m.sender c.give-len.new.self (content_of frame) (frames_of k s.made) (gave done)
+    (gave done ++ out) same (c.give-len.ensures.stands (frames_of k s.made) (gave done)) old in
+    let stands : SenderStandsFor k c.give-len.new.self y (frames_of k s.made) (gave (done ++ Gave out ∷ [])) =
+    rw t.gave (rw is at new) in
     from_place k count (done ++ Gave out ∷ []) _ (phase.Sends n from) c.requires.sends
     (shown_given tell k count done out m _ (Sends n from) (Sends n from) s refl refl refl
     (c.add_units.ensures ∙ ap (λ (x : Tally). with_units x (len / SIZE)) s.tally
@@ -104,9 +105,7 @@ returns-else-not-busy-clause-shown c = λ k count done came.
     c.give-len.ensures.whole)
     (λ xs ys x. x)
     (record {
-      stands = subst (SenderStandsFor k c.give-len.new.self y (frames_of k s.made)) (sym t.gave)
-          (subst (λ (z : Content). SenderStandsFor k c.give-len.new.self z (frames_of k s.made) (gave done ++ out))
-          is new);
+      stands = stands;
       known = s.is_at.known;
       passes = s.is_at.passes;
     }))

@@ -1,4 +1,4 @@
-use Rattle.std.proofs.Common.{◌≡◌, ◌<◌, true, false, ℕ, List, length, Some, None, refl, ap, sym, subst, ◌∙◌, arith}
+use Rattle.std.proofs.Common.{◌≡◌, ◌<◌, true, false, List, length, Some, None, refl, ap, sym, ◌∙◌, arith}
 use Rattle.feed_events.specs.declared.course.Head.TheVariants as head
 use Rattle.mended_frames.specs.Heads.{head_at, least_head, is_passed}
 use Rattle.mended_frames.specs.Mended.{low_of}
@@ -15,8 +15,7 @@ pub make-requires-clause-early : goal.make-requires-clause-early
 make-requires-clause-early c =
     let feeds : List Feed = c.args.self.now.feeds.items in
     let least : least_head (length feeds) (head_at feeds) ≡ Some c.in-Some.number =
-    subst (λ (l : List Feed). least_head (length l) (head_at l) ≡ Some c.in-Some.number) c.deref.ensures.value
-    (sym c.least_number.ensures ∙ c.in-Some.is) in
+    rw c.deref.ensures.value at (sym c.least_number.ensures ∙ c.in-Some.is) in
     early_at feeds c.in-Some.number (least_at feeds (length feeds) c.in-Some.number least)
 
 pub returns-then-number-self-clause-shown : goal.returns-then-number-self-clause-shown
@@ -27,9 +26,8 @@ returns-then-number-self-clause-shown c = λ k count done came.
     let known = gives_known feeds (sym (ap (λ (p : Phase). step_in p feeds) c.requires.looks) ∙ c.requires.gives) in
     let s = at_place k count done m phase.Looks c.requires.looks came in
     let least : least_head (length feeds) (head_at feeds) ≡ Some n =
-    subst (λ (l : List Feed). least_head (length l) (head_at l) ≡ Some n) c.deref.ensures.value
-    (sym c.least_number.ensures ∙ c.in-Some.is) in
-    let least_count = subst (λ (l : ℕ). least_head l (head_at feeds) ≡ Some n) s.come.count least in
+    rw c.deref.ensures.value at (sym c.least_number.ensures ∙ c.in-Some.is) in
+    let least_count = rw s.come.count at least in
     let low_is = s.low in
     let low : n < low_of s.past = omega (arith, low_is, c.if-number-self.true) in
     c.pass.ensures.shown k count done
@@ -42,8 +40,7 @@ returns-then-number-self-clause-left c =
     let feeds : List Feed = m.feeds.items in
     let n = c.in-Some.number in
     let least : least_head (length feeds) (head_at feeds) ≡ Some n =
-    subst (λ (l : List Feed). least_head (length l) (head_at l) ≡ Some n) c.deref.ensures.value
-    (sym c.least_number.ensures ∙ c.in-Some.is) in
+    rw c.deref.ensures.value at (sym c.least_number.ensures ∙ c.in-Some.is) in
     step_left m c.pass.new.self c.requires.looks c.pass.ensures.phase
     (c.pass.ensures.left (passes_at feeds n false (least_at feeds (length feeds) n least)))
 
@@ -54,8 +51,7 @@ returns-else-number-self-clause-shown c = λ k count done came.
     let n = c.in-Some.number in
     let known = gives_known feeds (sym (ap (λ (p : Phase). step_in p feeds) c.requires.looks) ∙ c.requires.gives) in
     let least : least_head (length feeds) (head_at feeds) ≡ Some n =
-    subst (λ (l : List Feed). least_head (length l) (head_at l) ≡ Some n) c.deref.ensures.value
-    (sym c.least_number.ensures ∙ c.in-Some.is) in
+    rw c.deref.ensures.value at (sym c.least_number.ensures ∙ c.in-Some.is) in
     c.make.ensures.shown k count done came known least (omega (arith, c.if-number-self.false))
 
 pub returns-else-number-self-clause-left : goal.returns-else-number-self-clause-left
@@ -64,8 +60,7 @@ returns-else-number-self-clause-left c =
     let feeds : List Feed = m.feeds.items in
     let n = c.in-Some.number in
     let least : least_head (length feeds) (head_at feeds) ≡ Some n =
-    subst (λ (l : List Feed). least_head (length l) (head_at l) ≡ Some n) c.deref.ensures.value
-    (sym c.least_number.ensures ∙ c.in-Some.is) in
+    rw c.deref.ensures.value at (sym c.least_number.ensures ∙ c.in-Some.is) in
     c.make.ensures.left (passes_at feeds n true (least_at feeds (length feeds) n least))
 
 pub returns-then-is_silent-clause-shown : goal.returns-then-is_silent-clause-shown
@@ -75,13 +70,12 @@ returns-then-is_silent-clause-shown c = λ k count done came.
     let known = gives_known feeds (sym (ap (λ (p : Phase). step_in p feeds) c.requires.looks) ∙ c.requires.gives) in
     let s = at_place k count done m phase.Looks c.requires.looks came in
     let least : least_head (length feeds) (head_at feeds) ≡ None =
-    subst (λ (l : List Feed). least_head (length l) (head_at l) ≡ None) c.deref.ensures.value
-    (sym c.least_number.ensures ∙ c.in-None.is) in
-    let least_count = subst (λ (l : ℕ). least_head l (head_at feeds) ≡ None) s.come.count least in
+    rw c.deref.ensures.value at (sym c.least_number.ensures ∙ c.in-None.is) in
+    let least_count = rw s.come.count at least in
     let value = c.deref-in-None.ensures.value in
     let y = c.is_silent.ensures.«yes» c.if-is_silent.true in
-    let there : head_at feeds y.0 ≡ head.Silent = subst (λ (l : List Feed). head_at l y.0 ≡ head.Silent) value y.2 in
-    let inside = subst (λ (l : List Feed). y.0 < length l) value y.1 in
+    let there : head_at feeds y.0 ≡ head.Silent = rw value at y.2 in
+    let inside = rw value at y.1 in
     let all_count = s.come.count in
     c.pass-then-is_silent.ensures.shown k count done
     (shown_passes k count done m m None true s refl refl s.mends refl refl known
@@ -98,8 +92,8 @@ returns-then-is_silent-clause-left c =
     step_left m c.pass-then-is_silent.new.self c.requires.looks c.pass-then-is_silent.ensures.phase
     (c.pass-then-is_silent.ensures.left (record {
       input = y.0;
-      inside = subst (λ (l : List Feed). y.0 < length l) value y.1;
-      passed = ap (is_passed None true) (subst (λ (l : List Feed). head_at l y.0 ≡ head.Silent) value y.2);
+      inside = rw value at y.1;
+      passed = ap (is_passed None true) (rw value at y.2);
     }))
 
 pub returns-else-is_silent-clause-shown : goal.returns-else-is_silent-clause-shown
@@ -109,9 +103,7 @@ returns-else-is_silent-clause-shown c = λ k count done came.
     let known = gives_known feeds (sym (ap (λ (p : Phase). step_in p feeds) c.requires.looks) ∙ c.requires.gives) in
     let s = at_place k count done m phase.Looks c.requires.looks came in
     let least : least_head (length feeds) (head_at feeds) ≡ None =
-    subst (λ (l : List Feed). least_head (length l) (head_at l) ≡ None) c.deref.ensures.value
-    (sym c.least_number.ensures ∙ c.in-None.is) in
+    rw c.deref.ensures.value at (sym c.least_number.ensures ∙ c.in-None.is) in
     c.finish.ensures.shown k count done came
-    (all_over feeds count known (subst (λ (l : ℕ). least_head l (head_at feeds) ≡ None) s.come.count least)
-    (λ i e. c.is_silent.ensures.«no» c.if-is_silent.false i (subst (λ (l : List Feed). head_at l i ≡ head.Silent)
-    (sym c.deref-in-None.ensures.value) e)))
+    (all_over feeds count known (rw s.come.count at least)
+    (λ i e. c.is_silent.ensures.«no» c.if-is_silent.false i (rw c.deref-in-None.ensures.value e)))

@@ -1,15 +1,12 @@
-use Rattle.std.proofs.Common.{◌≡◌, ◌≤◌, ◌++◌, ◌∷◌, true, ℕ, List, [], length, Some, None, refl, ap, ap₂, sym, subst}
+use Rattle.std.proofs.Common.{◌≡◌, ◌≤◌, ◌++◌, ◌∷◌, true, List, [], length, Some, None, refl, ap, ap₂, sym, subst}
 use Rattle.std.proofs.Common.{◌∙◌, arith}
 use Rattle.plp_config.specs.declared.config.Config.{Config}
-use Rattle.mended_frames.specs.Heads.{head_at, least_head}
 use Rattle.spaced_frames.specs.StandsFor.{SenderStandsFor, Content, sent_as}
 use Rattle.mended_frames.specs.Mended.{Made, made_of, made_as, frames_of, content_in, low_of}
-use Rattle.mended_frames.specs.StandsFor.{Feed, HaveGroups, MenderStandsFor, is_woven_by, lent_by, lent_content}
+use Rattle.mended_frames.specs.StandsFor.{Feed, HaveGroups, is_woven_by, lent_by, lent_content}
 use Rattle.mended_frames.specs.StandsFor.{picked_as}
 use Rattle.mended_frames.specs.declared.mender.Mender.{Mender}
 use Rattle.file_run.specs.Events.{gave}
-use Rattle.mend_run.specs.AsMachine.{left_of, left_at}
-use Rattle.mend_run.specs.declared.phase.Phase.{Phase}
 use Rattle.mend_run.specs.declared.phase.Phase.TheVariants as phase
 use Rattle.mend_run.proofs.PassLemmas.{next_groups}
 use Rattle.mend_run.proofs.ShownLemmas.{at_place, from_place, stands_as, shown_begun, shown_passes}
@@ -29,7 +26,7 @@ returns-in-Some-clause-shown c = λ k count done came known least low.
     let behind : low_of s.past ≤ n = omega (arith, low, low_is) in
     let g = next_groups k n done s.gone count feeds s.come known in
     let have : HaveGroups n c.deref-2.result.now g.groups =
-    subst (λ (l : List Feed). HaveGroups n l g.groups) (sym c.deref-2.ensures.value) g.have in
+    rw c.deref-2.ensures.value g.have in
     let makes = c.in-Some.ensures.some g.groups s.past s.mends (above s.past n behind) have in
     let config : mender.plan.now ≡ k = c.make.ensures.plan ∙ m.mends ∙ s.plan in
     let x : Made = made_as n (is_woven_by from) makes.group in
@@ -37,14 +34,13 @@ returns-in-Some-clause-shown c = λ k count done came known least low.
     let same = c.begin.ensures.same in
     let items = ap (λ (v : _). v.items) same.1 in
     let made : made_of k s.past (picked_as n g.groups) ≡ Some x =
-    subst (λ (z : Config). made_of z s.past (picked_as n g.groups) ≡ Some x) config makes.made in
-    let least_count = subst (λ (l : ℕ). least_head l (head_at feeds) ≡ Some n) s.come.count least in
+    rw config at makes.made in
+    let least_count = rw s.come.count at least in
     let lent : lent_by from mender feeds ≡ Some makes.lent =
-    subst (λ (l : List Feed). lent_by from mender l ≡ Some makes.lent) c.deref-2.ensures.value makes.is in
+    rw c.deref-2.ensures.value at makes.is in
     from_place k count done new (phase.Sends n from) c.begin.ensures.phase
     (shown_begun k count done m new n from (is_woven_by from) makes.group y s same.0 items
-    (subst (λ (z : Mender). MenderStandsFor z (record { number = n; group = makes.group } ∷ s.past))
-    (sym same.2) makes.stands)
+    (rw same.2 makes.stands)
     c.begin.ensures.tally known (passes_at feeds n true (least_at feeds (length feeds) n least))
     (ap₂ (λ (z : Mender) (l : List Feed). lent_content from z l) (sym same.2) (sym items))
     (c.begin.ensures.content makes.lent makes.own makes.group lent makes.holds
@@ -66,21 +62,12 @@ returns-in-None-clause-shown c = λ k count done came known least low.
     let behind : low_of s.past ≤ n = omega (arith, low, low_is) in
     let g = next_groups k n done s.gone count feeds s.come known in
     let have : HaveGroups n c.deref-2.result.now g.groups =
-    subst (λ (l : List Feed). HaveGroups n l g.groups) (sym c.deref-2.ensures.value) g.have in
+    rw c.deref-2.ensures.value g.have in
     let none = c.in-None.ensures.none g.groups s.past s.mends (above s.past n behind) have in
     let made : made_of k s.past (picked_as n g.groups) ≡ None =
     subst (λ (z : Config). made_of z s.past (picked_as n g.groups) ≡ None) (m.mends ∙ s.plan) none.0 in
-    let least_count = subst (λ (l : ℕ). least_head l (head_at feeds) ≡ Some n) s.come.count least in
+    let least_count = rw s.come.count at least in
     c.pass.ensures.shown k count done
     (shown_passes k count done m _ (Some n) true s refl refl none.1 refl refl known
     (λ xs ys all. frame_next k count feeds done s.gone s.come known s.past xs ys all n least_count behind None
     (ap (made_of k s.past) (picked_is k count feeds done s.gone s.come known s.past xs ys all n g) ∙ made)))
-
-pub returns-in-None-clause-left : goal.returns-in-None-clause-left
-returns-in-None-clause-left c = λ one.
-    let m = c.args.self.now in
-    let new = c.pass.new.self in
-    let less = c.pass.ensures.left one in
-    let was : left_of m ≡ _ = ap (λ (p : Phase). left_at p m) c.requires.looks in
-    let now : left_of new ≡ _ = ap (λ (p : Phase). left_at p new) c.pass.ensures.phase in
-    omega (arith, less, was, now)

@@ -1,72 +1,45 @@
-use Rattle.std.proofs.Common.{◌≡◌, ◌<◌, ◌++◌, ◌∷◌, ℕ, List, [], length, refl, sym, subst, ◌∙◌}
+use Rattle.std.proofs.Common.{length, refl, sym, ◌∙◌}
 use Rattle.std.proofs.lemmas.List.{with_items_is}
-use Rattle.feed_events.specs.declared.course.Head.TheVariants as head
-use Rattle.mended_frames.specs.Heads.{head_at}
-use Rattle.mended_frames.specs.StandsFor.{Feed, AreOf}
-use Rattle.file_run.specs.Events.{Ended}
-use Rattle.file_run.specs.Steps.{FallsShort}
-use Rattle.mend_run.specs.Row.{HaveCome, GoOn}
 use Rattle.mend_run.specs.declared.phase.Phase.TheVariants as phase
 use Rattle.mend_run.proofs.ShownLemmas.{at_place, from_place, shown_fed}
-use Rattle.mend_run.proofs.WantLemmas.{asked, reach_by}
+use Rattle.mend_run.proofs.WantLemmas.{short, reach_by}
 use Rattle.mend_run.proofs.machine.MendMachineMachine.end_input.Goals as goal
 
 pub end_one-requires-clause-inside : goal.end_one-requires-clause-inside
 end_one-requires-clause-inside c =
-    let m = c.args.self.now in
-    let w = asked FallsShort (λ i n h. h) (λ i n h. h) m.phase m.feeds.items c.args.input _ c.requires.wanted in
-    subst (λ (l : List Feed). c.args.input < length l) (sym c.deref_mut.ensures.value)
-    (subst (λ (i : ℕ). i < length m.feeds.items) w.asks.0 w.waits.inside)
+    rw c.deref_mut.ensures.value (short c.args.self.now c.args.input _ c.requires.wanted).0.waits.inside
 
 pub end_one-requires-clause-unknown : goal.end_one-requires-clause-unknown
 end_one-requires-clause-unknown c =
-    let m = c.args.self.now in
-    let w = asked FallsShort (λ i n h. h) (λ i n h. h) m.phase m.feeds.items c.args.input _ c.requires.wanted in
-    subst (λ (l : List Feed). head_at l c.args.input ≡ head.Unknown) (sym c.deref_mut.ensures.value)
-    (subst (λ (i : ℕ). head_at m.feeds.items i ≡ head.Unknown) w.asks.0 w.waits.there)
-
-pub end_one-requires-clause-short : goal.end_one-requires-clause-short
-end_one-requires-clause-short c =
-    (asked FallsShort (λ i n h. h) (λ i n h. h) c.args.self.now.phase c.args.self.now.feeds.items c.args.input
-    _ c.requires.wanted).asks.1
+    rw c.deref_mut.ensures.value (short c.args.self.now c.args.input _ c.requires.wanted).0.waits.there
 
 pub invariant_of-self-clause-of : goal.invariant_of-self-clause-of
 invariant_of-self-clause-of c =
     let m = c.args.self.now in
-    let items = with_items_is m.feeds c.end_one.new.feeds (c.end_one.auto.feeds ∙ c.deref_mut.ensures.len) in
-    subst (AreOf m.plan.now) (sym items)
-    (c.end_one.ensures.of m.plan.now (subst (AreOf m.plan.now) (sym c.deref_mut.ensures.value) m.of))
+    rw (with_items_is m.feeds c.end_one.new.feeds (c.end_one.auto.feeds ∙ c.deref_mut.ensures.len))
+    (c.end_one.ensures.of m.plan.now (rw c.deref_mut.ensures.value m.of))
 
 pub invariant_of-self-clause-inside : goal.invariant_of-self-clause-inside
 invariant_of-self-clause-inside c = λ n i sends.
-    let m = c.args.self.now in
-    let w = asked FallsShort (λ i n h. h) (λ i n h. h) m.phase m.feeds.items c.args.input _ c.requires.wanted in
-    absurd (let z = sym w.looks ∙ sends in cc)
+    absurd (let z = sym (short c.args.self.now c.args.input _ c.requires.wanted).0.looks ∙ sends in cc)
 
 pub invariant_of-self-clause-lends : goal.invariant_of-self-clause-lends
 invariant_of-self-clause-lends c = λ n i f sends is.
-    let m = c.args.self.now in
-    let w = asked FallsShort (λ i n h. h) (λ i n h. h) m.phase m.feeds.items c.args.input _ c.requires.wanted in
-    absurd (let z = sym w.looks ∙ sends in cc)
+    absurd (let z = sym (short c.args.self.now c.args.input _ c.requires.wanted).0.looks ∙ sends in cc)
 
 pub returns-clause-becomes : goal.returns-clause-becomes
 returns-clause-becomes c = λ start events came.
     let m = c.args.self.now in
     let k = start.plan.now in
     let count = length start.feeds.items in
-    let w = asked FallsShort (λ i n h. h) (λ i n h. h) m.phase m.feeds.items c.args.input _ c.requires.wanted in
-    let s = at_place k count events m phase.Looks w.looks came in
+    let looks = (short c.args.self.now c.args.input _ c.requires.wanted).0.looks in
+    let s = at_place k count events m phase.Looks looks came in
     let items = with_items_is m.feeds c.end_one.new.feeds (c.end_one.auto.feeds ∙ c.deref_mut.ensures.len) in
-    let go = c.end_one.ensures.goes k count events s.gone
-    (subst (λ (l : List Feed). HaveCome k count l events s.gone) (sym c.deref_mut.ensures.value) s.come) in
-    let now = subst (λ (l : List Feed). GoOn k count m.feeds.items l events
-    (events ++ Ended c.args.input c.args.bytes.now ∷ []) s.gone) (sym items)
-    (subst (λ (l : List Feed). GoOn k count l c.end_one.new.feeds events (events ++ Ended c.args.input
-    c.args.bytes.now ∷ []) s.gone)
-    c.deref_mut.ensures.value go) in
-    from_place k count _ _ phase.Looks w.looks
-    (shown_fed k count events _ m _ s now (c.events_law.ensures.ended c.args.input c.args.bytes.now events).gave
-    refl refl refl refl)
+    let value = c.deref_mut.ensures.value in
+    let go = rw value at (c.end_one.ensures.goes k count events s.gone (rw value s.come)) in
+    from_place k count _ _ phase.Looks looks
+    (shown_fed k count events _ m _ s (rw items go)
+    (c.events_law.ensures.ended c.args.input c.args.bytes.now events).gave refl refl refl refl)
 
 pub returns-clause-reach : goal.returns-clause-reach
 returns-clause-reach c =

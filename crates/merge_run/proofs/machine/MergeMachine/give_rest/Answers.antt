@@ -5,7 +5,8 @@ use Rattle.file_run.specs.Events.{Gave}
 use Rattle.merge_run.specs.Shown.{Shown, HasShown}
 use Rattle.merge_run.specs.declared.stop.MergeRan.{MergeRan}
 use Rattle.feed_merge.proofs.BothCameLemmas.{less_of, test_of}
-use Rattle.merge_run.proofs.GiveLemmas.{resting, few_units, shown_rest, left_rest, shown_done, left_done}
+use Rattle.merge_run.proofs.GiveLemmas.{few_units, shown_rest, shown_done}
+use Rattle.merge_run.proofs.ShownLemmas.{resting}
 use Rattle.merge_run.proofs.machine.MergeMachine.give_rest.Goals as goal
 
 pub returns-then-rest-clause-shown : goal.returns-then-rest-clause-shown
@@ -19,22 +20,15 @@ returns-then-rest-clause-shown c = λ k events s.
     (sym (take_all SIZE unit (omega (arith, c.rest.array_long))))
     (subst (λ (r : MergeRan). Shown k (events ++ Gave unit ∷ []) (record m { merger = g; ran = r }))
     (sym c.add_units.ensures)
-    (shown_rest c.events_law.ensures k m g events unit s c.requires.rests n.config n.finished n.fed (n.unit on)
+    (shown_rest c.events_law.ensures k m g events s c.requires.rests n.config n.finished n.fed unit (n.unit on)
     (n.stands on) (n.less on)))
-
-pub returns-then-rest-clause-left : goal.returns-then-rest-clause-left
-returns-then-rest-clause-left c =
-    left_rest c.args.self.now c.rest.new.self c.requires.rests (c.rest.ensures.less c.if-rest.true)
 
 pub returns-clause-shown : goal.returns-clause-shown
 returns-clause-shown c = λ k events s.
     let n = c.rest.ensures in
-    shown_done c.events_law.ensures k c.args.self.now c.rest.new.self events c.rest.new.out s c.requires.rests
+    shown_done c.events_law.ensures k c.args.self.now c.rest.new.self events s c.requires.rests
     n.config n.finished n.fed
     (n.none c.if-rest.false) (n.kept c.if-rest.false)
-
-pub returns-clause-left : goal.returns-clause-left
-returns-clause-left c = left_done c.args.self.now c.rest.new.self c.requires.rests
 
 pub rest-requires : goal.rest-requires
 rest-requires c = record {

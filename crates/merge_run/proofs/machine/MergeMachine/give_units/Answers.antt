@@ -1,4 +1,4 @@
-use Rattle.std.proofs.Common.{◌≡◌, ℕ, ◌+◌, [], ◌∷◌, ◌++◌, true, take, ap, sym, subst, ◌∙◌, arith}
+use Rattle.std.proofs.Common.{ℕ, ◌+◌, [], ◌∷◌, ◌++◌, take, ap, sym, subst, ◌∙◌, arith}
 use Rattle.std.proofs.Math.Logic.{∥∥₁_map}
 use Rattle.file_run.specs.Events.{Gave}
 use Rattle.feed_merge.specs.Frames.{IsFrameOf}
@@ -6,21 +6,19 @@ use Rattle.feed_merge.specs.FeedStandsFor.{waiting_of, is_whole}
 use Rattle.feed_merge.specs.FeedStandsFor as feed
 use Rattle.feed_merge.specs.declared.feed.FrameFeed.{FrameFeed}
 use Rattle.merge_run.specs.Shown.{Shown, HasShown}
-use Rattle.merge_run.specs.Taking.{is_same, feed_in}
 use Rattle.merge_run.specs.declared.phase.Phase.TheVariants.{Reads}
 use Rattle.merge_run.specs.declared.stop.MergeRan.{MergeRan}
 use Rattle.feed_merge.specs.declared.seen.Feed.TheVariants.{A, B}
 use Rattle.feed_merge.proofs.BothCameLemmas.{test_of, less_of}
-use Rattle.merge_run.proofs.GiveLemmas.{giving, same_network, left_behind, whole_first, whole_second, early_first}
-use Rattle.merge_run.proofs.GiveLemmas.{early_second, few_more, shown_units, left_full, shown_behind, counted_units}
-use Rattle.merge_run.proofs.TakeLemmas.{can_whole}
+use Rattle.merge_run.proofs.GiveLemmas.{can_leave, same_network, few_more, shown_units, shown_behind, counted_units}
+use Rattle.merge_run.proofs.ShownLemmas.{giving}
 use Rattle.merge_run.proofs.machine.MergeMachine.give_units.Goals as goal
 
 pub give_frame-len-requires-clause-whole : goal.give_frame-len-requires-clause-whole
 give_frame-len-requires-clause-whole c =
     let m = c.args.self.now in
-    subst (λ (f : FrameFeed). is_whole (waiting_of f) ≡ true) (sym c.source_of-feed.ensures)
-    (test_of _ _ c.requires.came (λ (h : HasShown m). (giving h.network m h.events h.shown c.requires.gives).whole))
+    rw c.source_of-feed.ensures (test_of _ _ c.requires.came
+    (λ (h : HasShown m). (giving h.network m h.events h.shown c.requires.gives).whole))
 
 pub give_frame-len-requires-clause-network : goal.give_frame-len-requires-clause-network
 give_frame-len-requires-clause-network c =
@@ -45,18 +43,10 @@ add_units-requires c =
     }
 
 pub skip_source-requires-clause-can_a : goal.skip_source-requires-clause-can_a
-skip_source-requires-clause-can_a c =
-    let m = c.args.self.now in
-    can_whole (is_same m.source A) (waiting_of m.a) c.requires.came
-    (λ (h : HasShown m). whole_first h.network m h.events h.shown c.requires.gives)
-    (λ (h : HasShown m). early_first h.network m h.events h.shown c.requires.gives)
+skip_source-requires-clause-can_a c = can_leave c.args.self.now c.requires.came c.requires.gives A
 
 pub skip_source-requires-clause-can_b : goal.skip_source-requires-clause-can_b
-skip_source-requires-clause-can_b c =
-    let m = c.args.self.now in
-    can_whole (is_same m.source B) (waiting_of m.b) c.requires.came
-    (λ (h : HasShown m). whole_second h.network m h.events h.shown c.requires.gives)
-    (λ (h : HasShown m). early_second h.network m h.events h.shown c.requires.gives)
+skip_source-requires-clause-can_b c = can_leave c.args.self.now c.requires.came c.requires.gives B
 
 pub returns-then-not-full-clause-shown : goal.returns-then-not-full-clause-shown
 returns-then-not-full-clause-shown c = λ k events s.
@@ -75,14 +65,6 @@ returns-then-not-full-clause-shown c = λ k events s.
     (record { took_a = t.a; took_b = t.b })
     c.if-not-full.true)
 
-pub returns-then-not-full-clause-left : goal.returns-then-not-full-clause-left
-returns-then-not-full-clause-left c =
-    let t = c.skip_source.ensures in
-    left_behind c.args.self.now c.skip_source.new.a c.skip_source.new.b
-    (feed_in c.args.self.now.source c.skip_source.new.a c.skip_source.new.b) c.give_frame-len.new.merger
-    c.requires.gives
-    (record { took_a = t.a; took_b = t.b })
-
 pub returns-else-not-full-clause-shown : goal.returns-else-not-full-clause-shown
 returns-else-not-full-clause-shown c = λ k events s.
     let m = c.args.self.now in
@@ -95,13 +77,3 @@ returns-else-not-full-clause-shown c = λ k events s.
     (record m { merger = u.new.merger; ran = r }))
     (sym (c.add_units.ensures ∙ ap (λ (q : ℕ). record m.ran { units = m.ran.units + q }) e))
     (shown_units c.events_law.ensures k m u.new.merger events s c.requires.gives n.0 is u.result.1 _ n.2)
-
-pub returns-else-not-full-clause-left : goal.returns-else-not-full-clause-left
-returns-else-not-full-clause-left c =
-    let m = c.args.self.now in
-    let u = c.give_frame-len in
-    let n = u.ensures.gives in
-    let is = subst (λ (f : FrameFeed). IsFrameOf f n.0) c.source_of-feed.ensures n.1 in
-    less_of _ _ c.requires.came (λ (h : HasShown m).
-    left_full c.events_law.ensures h.network m u.new.merger h.events h.shown c.requires.gives n.0 is
-    u.result.1 _ n.2 c.if-not-full.false)

@@ -1,5 +1,0 @@
-use Rattle.merge_run.proofs.LawLemmas.{one_run}
-use Rattle.merge_run.proofs.laws.one_run_law.Goals as goal
-
-pub returns : goal.returns
-returns c = one_run
