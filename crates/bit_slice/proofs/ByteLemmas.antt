@@ -51,12 +51,7 @@ register-byte d low small wide s b fits fits_b =
 -- in a register of eight bits no byte is left below the highest one
 pub register-eight-bits : (low s b : ℕ) → low < 2 ^ 8 → s < 2 ^ 8 → b < 2 ^ 8 → register 8 low s (field 8 b)
     ≡ zeros 8 low 8 (bit_xor s b * 2 ^ (8 - 8))
-register-eight-bits low s b small fits fits_b =
-    let none : s * 2 ^ 8 % 2 ^ 8 ≡ 0 = omega arith in
-    let all : s / 2 ^ (8 - 8) ≡ s = omega arith in
-    let eight : 8 ≤ 8 = omega arith in
-    let byte = register-byte 8 low small eight s b fits fits_b in
-    byte ∙ rw (none, all) (xor_zero_l (zeros 8 low 8 (bit_xor s b * 2 ^ (8 - 8))))
+register-eight-bits low s b small fits fits_b = grind (arith, register-byte, xor_zero_l)
 
 -- four tables: a word is the sum of its bytes, each of which moves to the top first
 pub zeros-word : (low first x : ℕ) → low < 2 ^ 32 → x < 2 ^ 32 →
@@ -114,11 +109,7 @@ zeros-word low first x small fits =
 -- four bytes are 32 zero bits of a sum with their number
 register-word : (low s : ℕ) (bytes : List ℕ) → low < 2 ^ 32 → s < 2 ^ 32 → length bytes ≡ 4 →
     register 32 low s (bits_of bytes) ≡ zeros 32 low 32 (bit_xor s (number_of (bits_of bytes)))
-register-word low s bytes small fits size =
-    let wide : length (bits_of bytes) ≡ 32 = length-bits_of bytes ∙ ap (λ (n : ℕ). 8 * n) size in
-    let few : length (bits_of bytes) ≤ 32 = omega arith in
-    let e : number_of (bits_of bytes) * 2 ^ (32 - 32) ≡ number_of (bits_of bytes) = omega arith in
-    rw (wide, e) at (register_is_zeros 32 low small (bits_of bytes) s fits few)
+register-word low s bytes small fits size = grind (arith, length-bits_of, register_is_zeros)
 
 -- Four bytes are 32 zero bits of the sum of the register and their word.
 pub register-four : (low s : ℕ) (bytes : List ℕ) → low < 2 ^ 32 → s < 2 ^ 32 → length bytes ≡ 4

@@ -59,11 +59,7 @@ Divides d low bs s quotient =
     (register d low s bs))
 
 pub step_lt : (d low s : ℕ) (b : Bool) → low < 2 ^ d → step d low s b < 2 ^ d
-step_lt d low s b small =
-    let pos = pow_pos d in
-    let u : s * 2 % 2 ^ d < 2 ^ d = mod_below (s * 2) (2 ^ d) pos in
-    elim (differ (s * 2 / 2 ^ d == 1) b) as (λ v. cond v (bit_xor (s * 2 % 2 ^ d) low) (s * 2 % 2 ^ d) < 2 ^ d)
-    [ true ↦ xor_lt d (s * 2 % 2 ^ d) low u small | false ↦ u ]
+step_lt d low s b small = grind (arith, pow_pos, mod_below, xor_lt)
 
 -- the bit that leaves the register
 pub top_lt : (d s : ℕ) → s < 2 ^ d → s * 2 / 2 ^ d < 2
@@ -95,11 +91,7 @@ begun : (d : ℕ) (b : Bool) (bs : List Bool) (s : ℕ) → s < 2 ^ d →
     bit_xor (number_of (b ∷ bs) * 2 ^ d) (s * 2 ^ suc (length bs))
     ≡ cond (differ (s * 2 / 2 ^ d == 1) b) 1 0 * 2 ^ (length bs + d) + bit_xor (number_of bs * 2 ^ d)
     (s * 2 % 2 ^ d * 2 ^ length bs)
-begun d b bs s fits =
-    let heads = number_is b bs in
-    let parted = split d (length bs) s (cond b 1 0) (number_of bs) (number_of-lt bs) fits in
-    let bit = differ_is (s * 2 / 2 ^ d) b (top_lt d s fits) in
-    rw (heads, parted, bit) refl
+begun d b bs s fits = grind (arith, number_is, split, number_of-lt, differ_is, top_lt)
 
 -- the bits that come back are the quotient, and what stays in the register is the remainder
 divides : (d low : ℕ) → low < 2 ^ d → (bs : List Bool) (s : ℕ) → s < 2 ^ d → (quotient : List Bool)

@@ -1,23 +1,21 @@
 -- Bits behind other bits in bytes, and zeros behind them.
 use Rattle.std.proofs.Common.{◌≡◌, ℕ, zero, suc, ◌+◌, ◌-◌, ◌*◌, ◌/◌, ◌%◌, ◌^◌, ◌<◌, ◌≤◌, ⊎_elim, Bool, true, false}
 use Rattle.std.proofs.Common.{List, []}
-use Rattle.std.proofs.Common.{◌++◌, length, take, drop, map, get_or, refl, ap, sym, ◌∙◌, arith}
+use Rattle.std.proofs.Common.{◌++◌, length, take, drop, get_or, refl, ap, sym, ◌∙◌, arith}
 use Rattle.std.specs.Prelude.{replicate, bit_or, if◌then◌else◌}
 use Rattle.std.specs.Int.{bytes_high_first}
-use Rattle.std.specs.List.{range_with_len}
 use Rattle.std.proofs.lemmas.Bool.{cases_lt}
 use Rattle.std.proofs.lemmas.List.FromFn.{fill_by_all}
 use Rattle.std.proofs.Math.Nat.{add-mul, mul_assoc, mod-eq_of_lt, pow-le-pow_right}
-use Rattle.std.proofs.lemmas.List.{append_assoc, append-nil, length-append, length-drop, length-take-le}
+use Rattle.std.proofs.lemmas.List.{append_assoc, append-nil, length-append, length-drop, length-take-le, get_or-take, take-take}
 use Rattle.std.proofs.lemmas.List.{length-replicate}
 use Rattle.std.proofs.lemmas.List.{take-append-le, drop-append-le, take-append-drop, take_all, take_at, drop_all}
-use Rattle.std.proofs.lemmas.List.{drop-drop}
-use Rattle.std.proofs.lemmas.List.{replicate-append-replicate, take-replicate, drop-replicate}
-use Rattle.std.proofs.Math.Seq.{take-append-add, drop-append-add}
+use Rattle.std.proofs.lemmas.List.{replicate-append-replicate, take-replicate}
+use Rattle.std.proofs.Math.Seq.{take-append-add}
 use Rattle.std.proofs.lemmas.Nat.{or_shifted, pow-add, shl_below}
 use Rattle.terms.specs.Bits.{field, bits_of, number_of, part, byte_at, bytes_of, bytes_for}
 use Rattle.terms.proofs.BitLemmas.{length-field, field-add, drop-field, length-bits_of, bits_of-append, take-bits_of}
-use Rattle.terms.proofs.BitLemmas.{drop-bits_of, number_of-append, number_of-field, field-number_of, number_at-bits_of}
+use Rattle.terms.proofs.BitLemmas.{number_of-append, number_of-field, field-number_of, number_at-bits_of}
 use Rattle.terms.proofs.BitLemmas.{number_of-lt, length-part, bits_of-high-first}
 use Rattle.terms.proofs.PartLemmas.{number_of-zeros, part-add}
 use Rattle.bit_slice.specs.Filling.{padded, Holds}
@@ -34,30 +32,12 @@ take-padded bits k n few less =
     ap (λ (i : ℕ). take i (bits ++ zeros)) place ∙ take-append-add bits zeros (k - length bits)
     ∙ ap (λ (more : List Bool). bits ++ more) (take-replicate (k - length bits) (n - length bits) false (omega arith))
 
--- what stands behind all the bits
-drop-padded : (bits : List Bool) (k n : ℕ) → length bits ≤ k → drop k (padded bits n) ≡ replicate (n - k) false
-drop-padded bits k n few =
-    let zeros : List Bool = replicate (n - length bits) false in
-    let place : k ≡ length bits + (k - length bits) = omega arith in
-    let left : n - length bits - (k - length bits) ≡ n - k = omega arith in
-    ap (λ (i : ℕ). drop i (bits ++ zeros)) place ∙ drop-append-add bits zeros (k - length bits)
-    ∙ drop-replicate (k - length bits) (n - length bits) false ∙ ap (λ (i : ℕ). replicate i false) left
-
 -- a front of the bits, and the rest filled up
 cut-padded : (bits : List Bool) (k n : ℕ) → k ≤ length bits → drop k (padded bits n) ≡ padded (drop k bits) (n - k)
 cut-padded bits k n inside =
     let left : n - length bits ≡ n - k - length (drop k bits) = omega (arith, length-drop k bits) in
     drop-append-le k bits (replicate (n - length bits) false) inside ∙ ap (λ (i : ℕ). drop k bits ++ replicate i false)
     left
-
--- more zeros
-padded-more : (bits : List Bool) (k n : ℕ) → length bits ≤ k → k ≤ n
-    → padded bits k ++ replicate (n - k) false ≡ padded bits n
-padded-more bits k n few less =
-    let sum : k - length bits + (n - k) ≡ n - length bits = omega arith in
-    append_assoc bits (replicate (k - length bits) false) (replicate (n - k) false)
-    ∙ ap (λ (more : List Bool). bits ++ more) (replicate-append-replicate (k - length bits) (n - k) false
-    ∙ ap (λ (i : ℕ). replicate i false) sum)
 
 -- bits in front of others
 padded-behind : (front bits : List Bool) (n : ℕ) → front ++ padded bits n ≡ padded (front ++ bits) (length front + n)
@@ -71,47 +51,44 @@ number_of-padded bits n =
     number_of-append bits (replicate (n - length bits) false)
     ∙ rw (length-replicate (n - length bits) false, number_of-zeros (n - length bits)) (omega arith)
 
+-- ---- how many bytes the bits fill
+fills : (bytes : List ℕ) (bits : List Bool) → Holds bytes bits → bytes_for (length bits) ≤ length bytes
+fills bytes bits held =
+    let count : ℕ = bytes_for (length bits) in
+    let long : 8 * length (take count bytes) ≡ 8 * count = sym (length-bits_of (take count bytes)) ∙ ap length held
+    ∙ length-padded bits (8 * count) (omega arith) in
+    ⊎_elim (λ (less : length bytes < count).
+    let all = ap length (take_all count bytes (omega arith)) in omega (arith, long, all, less)) (λ ge. ge)
+    (cases_lt (length bytes) count)
+
 -- ---- what is put in place of some bytes
 pub placed : (old new piece : List ℕ) (bits more : List Bool) (first count : ℕ) → Holds old bits
-    → new ≡ take first old ++ (piece ++ drop count (drop first old)) →
-    length piece ≡ count → 8 * first ≤ length bits → length bits + length more ≤ 8 * (first + count)
-    → first + count ≤ length old
-    →
-    bits_of piece ≡ padded (drop (8 * first) bits ++ more) (8 * count) → Holds new (bits ++ more)
-placed old new piece bits more first count held put_in size begun fits inside put =
-    let is : new ≡ take first old ++ (piece ++ drop (first + count) old) =
-    put_in ∙ ap (λ (xs : List ℕ). take first old ++ (piece ++ xs)) (drop-drop count first old) in
-    let all : ℕ = 8 * length old in
-    let end : ℕ = 8 * (first + count) in
-    let within : first ≤ length old = omega arith in
+    → new ≡ take first old ++ (piece ++ drop count (drop first old)) → length piece ≡ count
+    → 8 * first ≤ length bits → first + count ≡ bytes_for (length bits + length more)
+    → bits_of piece ≡ padded (drop (8 * first) bits ++ more) (8 * count) → Holds new (bits ++ more)
+placed old new piece bits more first count held is size begun end put =
+    let used : ℕ = bytes_for (length bits) in
+    let few : used ≤ length old = fills old bits held in
+    let inside : first ≤ used = omega arith in
     let front : bits_of (take first old) ≡ take (8 * first) bits =
-    sym (take-bits_of first old within) ∙ ap (take (8 * first)) held
-    ∙ take-append-le (8 * first) bits (replicate (all - length bits) false) begun in
-    let behind : bits_of (drop (first + count) old) ≡ replicate (all - end) false =
-    sym (drop-bits_of (first + count) old) ∙ ap (drop (8 * (first + count))) held
-    ∙ drop-padded bits (8 * (first + count)) all
-    (omega arith) in
+    ap bits_of (sym (take-take first used old inside))
+    ∙ sym (take-bits_of first (take used old) (omega (arith, length-take-le used old few, inside)))
+    ∙ ap (take (8 * first)) held
+    ∙ take-append-le (8 * first) bits (replicate (8 * used - length bits) false) begun in
+    let long : length (take first old) ≡ first = length-take-le first old (omega arith) in
+    let long_bits : length (take (8 * first) bits) ≡ 8 * first = length-take-le (8 * first) bits begun in
+    let count_is : bytes_for (length (bits ++ more)) ≡ first + count =
+    ap bytes_for (length-append bits more) ∙ sym end in
+    let whole : take (first + count) new ≡ take first old ++ piece =
+    ap (take (first + count)) (is ∙ sym (append_assoc (take first old) piece (drop count (drop first old))))
+    ∙ take_at (take first old ++ piece) (drop count (drop first old)) (first + count)
+    (length-append (take first old) piece ∙ omega (arith, long, size)) in
     let joined : take (8 * first) bits ++ (drop (8 * first) bits ++ more) ≡ bits ++ more =
     sym (append_assoc (take (8 * first) bits) (drop (8 * first) bits) more)
     ∙ ap (λ (xs : List Bool). xs ++ more) (take-append-drop (8 * first) bits) in
-    let long : length (take (8 * first) bits) ≡ 8 * first = length-take-le (8 * first) bits begun in
-    let place : length (take (8 * first) bits) + 8 * count ≡ end = omega arith in
-    let text : ℕ = length (bits ++ more) in
-    let few : text ≤ end = omega (arith, length-append bits more) in
-    let less : end ≤ all = omega arith in
-    let whole : length new ≡ length old = ap length is ∙ length-append (take first old)
-    (piece ++ drop (first + count) old)
-    ∙ ap (λ (k : ℕ). length (take first old) + k) (length-append piece (drop (first + count) old))
-    ∙ omega (arith, length-take-le first old within, length-drop (first + count) old) in
-    ap bits_of is ∙ bits_of-append (take first old) (piece ++ drop (first + count) old)
-    ∙ ap (λ (xs : List Bool). bits_of (take first old) ++ xs) (bits_of-append piece (drop (first + count) old))
-    ∙ rw (front, put, behind)
-    (sym (append_assoc (take (8 * first) bits) (padded (drop (8 * first) bits ++ more) (8 * count))
-    (replicate (all - end) false)))
-    ∙ ap (λ (xs : List Bool). xs ++ replicate (all - end) false)
+    let place : length (take (8 * first) bits) + 8 * count ≡ 8 * (first + count) = omega (arith, long_bits) in
+    rw (count_is, whole, bits_of-append (take first old) piece, front, put)
     (padded-behind (take (8 * first) bits) (drop (8 * first) bits ++ more) (8 * count) ∙ rw (joined, place) refl)
-    ∙ padded-more (bits ++ more) end all few less
-    ∙ ap (λ (k : ℕ). padded (bits ++ more) (8 * k)) (sym whole)
 
 -- ---- the window
 pub window_is : (front : List Bool) (byte first value width : ℕ) → length front ≡ first → first < 8 → 0 < width
@@ -171,30 +148,38 @@ begun_none bits used long none =
     let all : drop (8 * (used / 8)) bits ≡ [] = drop_all (8 * (used / 8)) bits (omega arith) in
     rw all (omega arith)
 
-byte_of : (bytes : List ℕ) (bits : List Bool) (k : ℕ) → Holds bytes bits → get_or bytes k 0 < 256 → k < length bytes
-    → 8 * k ≤ length bits →
-    get_or bytes k 0 ≡ number_of (take 8 (padded (drop (8 * k) bits) (8 * length bytes - 8 * k)))
-byte_of bytes bits k held small inside within =
-    sym (number_at-bits_of bytes k inside ∙ mod-eq_of_lt small)
+-- a byte that the bits fill
+byte_of : (bytes : List ℕ) (bits : List Bool) (k : ℕ) → Holds bytes bits → get_or bytes k 0 < 256
+    → k < bytes_for (length bits)
+    → get_or bytes k 0 ≡ number_of (take 8 (padded (drop (8 * k) bits) (8 * bytes_for (length bits) - 8 * k)))
+byte_of bytes bits k held small inside =
+    let count : ℕ = bytes_for (length bits) in
+    let same : get_or (take count bytes) k 0 ≡ get_or bytes k 0 = get_or-take count bytes k 0 inside in
+    let long = length-take-le count bytes (fills bytes bits held) in
+    sym same ∙ sym (number_at-bits_of (take count bytes) k (omega (arith, long, inside))
+    ∙ mod-eq_of_lt (omega (arith, same, small)))
     ∙ ap (λ (xs : List Bool). number_of (take 8 (drop (8 * k) xs))) held
-    ∙ ap (λ (xs : List Bool). number_of (take 8 xs)) (cut-padded bits (8 * k) (8 * length bytes) within)
+    ∙ ap (λ (xs : List Bool). number_of (take 8 xs)) (cut-padded bits (8 * k) (8 * count) (omega arith))
 
 pub begun_some : (bytes : List ℕ) (bits : List Bool) (used : ℕ) → length bits ≡ used → Holds bytes bits
-    → get_or bytes (used / 8) 0 < 256 → used / 8 < length bytes →
+    → get_or bytes (used / 8) 0 < 256 → 0 < used % 8 →
     get_or bytes (used / 8) 0 ≡ number_of (drop (8 * (used / 8)) bits) * 2 ^ (8 - used % 8)
-begun_some bytes bits used long held small inside =
+begun_some bytes bits used long held small some =
     let k : ℕ = used / 8 in
     let left : length (drop (8 * k) bits) ≡ used % 8 = omega (arith, length-drop (8 * k) bits) in
-    byte_of bytes bits k held small inside (omega arith)
-    ∙ ap number_of (take-padded (drop (8 * k) bits) 8 (8 * length bytes - 8 * k) (omega arith) (omega arith))
+    byte_of bytes bits k held small (omega arith)
+    ∙ ap number_of (take-padded (drop (8 * k) bits) 8 (8 * bytes_for (length bits) - 8 * k) (omega arith) (omega arith))
     ∙ number_of-padded (drop (8 * k) bits) 8 ∙ ap (λ (n : ℕ). number_of (drop (8 * k) bits) * 2 ^ (8 - n)) left
 
 -- ---- what the bytes hold
 pub seen : (bytes : List ℕ) (bits : List Bool) (used : ℕ) → Holds bytes bits → length bits ≡ used
     → take used (bits_of bytes)
     ≡ bits
-seen bytes bits used held long = ap (take used) held ∙ take_at bits (replicate (8 * length bytes - length bits) false)
-    used long
+seen bytes bits used held long =
+    let count : ℕ = bytes_for (length bits) in
+    sym (take-take used (8 * count) (bits_of bytes) (omega (arith, long)))
+    ∙ ap (take used) (take-bits_of count bytes (fills bytes bits held) ∙ held)
+    ∙ take_at bits (replicate (8 * count - length bits) false) used long
 
 pub seen_more : (bytes : List ℕ) (bits more : List Bool) (used count : ℕ) → Holds bytes (bits ++ more)
     → length bits ≡ used
@@ -215,31 +200,18 @@ bits_of-zeros (suc n) =
     ap (λ (xs : List Bool). field 8 0 ++ xs) (bits_of-zeros n) ∙ replicate-append-replicate 8 (8 * n) false
     ∙ ap (λ (k : ℕ). replicate k false) e
 
-pub holds_none : (n : ℕ) → Holds (replicate n 0) []
-holds_none n =
-    let size : 8 * n ≡ 8 * length (replicate n 0) - 0 = omega (arith, length-replicate {A = ℕ} n 0) in
-    bits_of-zeros n ∙ ap (λ (k : ℕ). replicate k false) size
-
-pub lengthened : (bytes : List ℕ) (bits : List Bool) (count : ℕ) → length bits ≤ 8 * length bytes → Holds bytes bits
-    → Holds (bytes ++ replicate count 0) bits
-lengthened bytes bits count few held =
-    let all : ℕ = length bytes + count in
-    let size : length (bytes ++ replicate count 0) ≡ all = length-append bytes (replicate count 0)
-    ∙ ap (λ (k : ℕ). length bytes + k) (length-replicate {A = ℕ} count 0) in
-    let more : 8 * count ≡ 8 * all - 8 * length bytes = omega arith in
-    bits_of-append bytes (replicate count 0)
-    ∙ rw (held, bits_of-zeros count, more) (padded-more bits (8 * length bytes) (8 * all) few (omega arith))
-    ∙ ap (λ (k : ℕ). padded bits (8 * k)) (sym size)
+pub holds_none : (bytes : List ℕ) → Holds bytes []
+holds_none bytes = refl
 
 -- bytes that the bits fill
-each_byte : (bytes : List ℕ) (bits : List Bool) (k : ℕ) → Holds bytes bits → get_or bytes k 0 < 256 → k < length bytes
-    → 8 * k ≤ length bits →
-    get_or bytes k 0 ≡ byte_at bits k
-each_byte bytes bits k held small inside within =
+each_byte : (bytes : List ℕ) (bits : List Bool) (k : ℕ) → Holds bytes bits → get_or bytes k 0 < 256
+    → k < bytes_for (length bits)
+    → get_or bytes k 0 ≡ byte_at bits k
+each_byte bytes bits k held small inside =
     let rest : List Bool = drop (8 * k) bits in
-    let left : ℕ = 8 * length bytes - 8 * k in
+    let left : ℕ = 8 * bytes_for (length bits) - 8 * k in
     let room : 8 ≤ left = omega arith in
-    byte_of bytes bits k held small inside within
+    byte_of bytes bits k held small inside
     ∙ ⊎_elim (λ (few : length rest < 8).
     ap number_of (take-padded rest 8 left (omega arith) room) ∙ number_of-padded rest 8
     ∙ ap (λ (xs : List Bool). number_of xs * 2 ^ (8 - length rest)) (sym (take_all 8 rest (omega arith))))
@@ -249,14 +221,15 @@ each_byte bytes bits k held small inside within =
     ∙ rw none (omega arith))
     (cases_lt (length rest) 8)
 
-pub filled : (bytes : List ℕ) (bits : List Bool) → Holds bytes bits → ((k : ℕ) → k < length bytes
-    → get_or bytes k 0 < 256)
-    → length bytes ≡ bytes_for (length bits) → bytes ≡ bytes_of bits
-filled bytes bits held small size =
-    let each : (k : ℕ) → k < length bytes → get_or bytes k 0 ≡ byte_at bits k =
-    λ k inside. each_byte bytes bits k held (small k inside) inside (omega arith) in
-    fill_by_all (byte_at bits) bytes (length bytes) 0 refl each
-    ∙ ap (λ (n : ℕ). map (byte_at bits) (range_with_len 0 n)) size
+pub filled : (bytes : List ℕ) (bits : List Bool) → Holds bytes bits
+    → ((k : ℕ) → k < length bytes → get_or bytes k 0 < 256)
+    → take (bytes_for (length bits)) bytes ≡ bytes_of bits
+filled bytes bits held small =
+    let count : ℕ = bytes_for (length bits) in
+    let few : count ≤ length bytes = fills bytes bits held in
+    let each : (k : ℕ) → k < count → get_or (take count bytes) k 0 ≡ byte_at bits k =
+    λ k inside. get_or-take count bytes k 0 inside ∙ each_byte bytes bits k held (small k (omega arith)) inside in
+    fill_by_all (byte_at bits) (take count bytes) count 0 (length-take-le count bytes few) each
 
 -- a field of no width
 pub none_put : (bytes : List ℕ) (bits : List Bool) (width value : ℕ) → width ≡ 0 → Holds bytes bits
@@ -268,18 +241,17 @@ none_put bytes bits width value none held = rw (none, append-nil bits) held
 pub bytes_placed : (old piece : List ℕ) (front bits : List Bool) (used at count size : ℕ) → Holds old front
     → length front ≡ used
     → used % 8 ≡ 0 →
-    at + 8 * count ≤ length bits → used + 8 * count ≤ 8 * length old → size ≡ count
+    at + 8 * count ≤ length bits → size ≡ count
     → bits_of piece ≡ part bits at (8 * count) →
     Holds (take (used / 8) old ++ (piece ++ drop size (drop (used / 8) old))) (front ++ part bits at (8 * count))
-bytes_placed old piece front bits used at count size held long aligned inside room same is =
-    let text : List Bool = part bits at (8 * count) in
-    let wide : length text ≡ 8 * count = length-part bits at (8 * count) inside in
-    let bytes : 8 * length piece ≡ 8 * count = sym (length-bits_of piece) ∙ ap length is ∙ wide in
+bytes_placed old piece front bits used at count size held long aligned inside same is =
+    let more : List Bool = part bits at (8 * count) in
+    let wide : length more ≡ 8 * count = length-part bits at (8 * count) inside in
     let none : drop (8 * (used / 8)) front ≡ [] = drop_all (8 * (used / 8)) front (omega arith) in
-    let zeros : 8 * size - length text ≡ 0 = omega arith in
-    let put : bits_of piece ≡ padded (drop (8 * (used / 8)) front ++ text) (8 * size) =
-    is ∙ sym (rw (none, zeros) (append-nil text)) in
-    placed old _ piece front text (used / 8) size held refl (omega arith) (omega arith) (omega arith) (omega arith) put
+    let full : 8 * size - length more ≡ 0 = omega (arith, wide, same) in
+    placed old _ piece front more (used / 8) size held refl
+    (omega (arith, length-bits_of piece, ap length is, wide, same))
+    (omega arith) (omega (arith, wide)) (is ∙ rw (none, full) (sym (append-nil more)))
 
 -- the bits as one part
 pub all_put : (bytes : List ℕ) (front bits : List Bool) (len : ℕ) → len ≡ length bits
@@ -307,14 +279,14 @@ parts_put bytes front bits head middle last rest place left inside held =
     ∙ rw (← two, end) (take-append-drop last bits)) in
     rw all at held
 
+-- more bytes behind them
 pub resized : (old new : List ℕ) (bits : List Bool) (ok : Bool) (n size : ℕ) → ok ≡ true
     → new ≡ (if ok then take n old ++ replicate (n - size) 0 else old) →
-    length old ≤ n → length bits ≤ 8 * length old → Holds old bits → Holds new bits
-resized old new bits ok n size yes_ok is more few held =
-    let grown : new ≡ old ++ replicate (n - size) 0 = (rw yes_ok at is)
-    ∙ ap (λ (xs : List ℕ). xs ++ replicate (n - size) 0)
-    (take_all n old more) in
-    rw grown (lengthened old bits (n - size) few held)
+    length old ≤ n → Holds old bits → Holds new bits
+resized old new bits ok n size yes_ok is more held =
+    let all : new ≡ old ++ replicate (n - size) 0 =
+    is ∙ rw yes_ok (ap (λ (xs : List ℕ). xs ++ replicate (n - size) 0) (take_all n old more)) in
+    rw (all, take-append-le (bytes_for (length bits)) old (replicate (n - size) 0) (fills old bits held)) held
 
 -- how many bits are seen
 pub seen_long : (bytes : List ℕ) (bits : List Bool) (used : ℕ) → take used (bits_of bytes) ≡ bits
@@ -337,28 +309,3 @@ field_end width all value narrow =
     ∙ ap (λ (bits : List Bool). part bits front width) (field-add front width value)
     ∙ ap (take width) (drop-field front (value / 2 ^ width) (field width value))
     ∙ take_all width (field width value) few
-
--- zeros in place of bytes that have all the bits
-pub cleared : (old new : List ℕ) (bits : List Bool) (end : ℕ) → Holds old bits → new ≡ replicate end 0 ++ drop end old
-    → length bits ≤ 8 * end → end ≤ length old → Holds new []
-cleared old new bits end held is few inside =
-    let all : ℕ = 8 * length old in
-    let behind : bits_of (drop end old) ≡ replicate (all - 8 * end) false = sym (drop-bits_of end old)
-    ∙ ap (drop (8 * end)) held
-    ∙ drop-padded bits (8 * end) all few in
-    let whole : length new ≡ length old = ap length is ∙ length-append (replicate end 0) (drop end old)
-    ∙ omega (arith, length-replicate {A = ℕ} end 0, length-drop end old) in
-    let sum : 8 * end + (all - 8 * end) ≡ 8 * length new - 0 = omega arith in
-    ap bits_of is ∙ bits_of-append (replicate end 0) (drop end old)
-    ∙ rw (bits_of-zeros end, behind) (replicate-append-replicate (8 * end) (all - 8 * end) false
-    ∙ ap (λ (k : ℕ). replicate k false) sum)
-
--- the bytes at the front that have all the bits hold them too
-pub holds_front : (bytes : List ℕ) (bits : List Bool) (n : ℕ) → Holds bytes bits → length bits ≤ 8 * n
-    → n ≤ length bytes
-    → Holds (take n bytes) bits
-holds_front bytes bits n held few inside =
-    let size : length (take n bytes) ≡ n = length-take-le n bytes inside in
-    sym (take-bits_of n bytes inside) ∙ ap (take (8 * n)) held ∙ take-padded bits (8 * n) (8 * length bytes)
-    few (omega arith)
-    ∙ ap (λ (k : ℕ). padded bits (8 * k)) (sym size)

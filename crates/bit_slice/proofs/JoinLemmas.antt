@@ -87,10 +87,7 @@ same_part a b at width in_a in_b e = sym (field-number_at a at width in_a) ∙ a
 pub word_more : (a b : List Bool) (at width : ℕ) → at + width ≤ length a → at + width ≤ length b → take at a ≡ take at b
     → number_at a at width ≡ number_at b at width →
     take (at + width) a ≡ take (at + width) b
-word_more a b at width in_a in_b front e =
-    take-add at width a ∙ ap (λ (xs : List Bool). xs ++ part a at width) front
-    ∙ ap (λ (xs : List Bool). take at b ++ xs)
-    (same_part a b at width in_a in_b e) ∙ sym (take-add at width b)
+word_more a b at width in_a in_b front e = grind (arith, take-add, same_part)
 
 pub word_of : (a b : List Bool) (at width count : ℕ) → at + width ≤ count → take count a ≡ take count b
     → number_at a at width
@@ -114,7 +111,4 @@ all_same a b at width size long front e =
 pub words_same : (a b : List Bool) (at rest x y : ℕ) → at + rest ≡ length a → length b ≡ length a
     → (IsTrue true ↔ (take at a ≡ take at b)) →
     x ≡ number_at a at rest → y ≡ number_at b at rest → IsTrue (nat_eq x y) ↔ (a ≡ b)
-words_same a b at rest x y size long words is_x is_y = (
-  λ same. all_same a b at rest size long (words.0 refl) (sym is_x ∙ (Decides-eqb x y).0 same ∙ is_y),
-  λ same. (Decides-eqb x y).1 (is_x ∙ ap (λ (bits : List Bool). number_at bits at rest) same ∙ sym is_y),
-)
+words_same a b at rest x y size long words is_x is_y = grind (arith, all_same, Decides-eqb)

@@ -115,15 +115,11 @@ fifteen_after w long = absurd (omega arith)
 
 -- a sum of two bits, both from x(0) on
 recurs : (i : ℕ) → prbs (i + 15) ≡ plus (prbs (i + 1)) (prbs i)
-recurs i =
-    ap next_bit (before-plus 15 i) ∙ fifteen_after (fifteen_before i) (length-before i)
-    ∙ ap (λ (w : List Bool). plus (next_bit w) (prbs i)) (sym (before-one i))
+recurs i = grind (arith, before-plus, fifteen_after, length-before, before-one)
 
 -- ---- from the loading sequence on
 sequence-later : (i : ℕ) → sequence (i + 15) ≡ prbs i
-sequence-later i =
-    let e : i + 15 - 15 ≡ i = omega arith in
-    rw (le-ltb (i + 15) 15 (omega arith)) (ap prbs e)
+sequence-later i = grind (arith, le-ltb)
 
 before_is : (i : ℕ) → fifteen_before i ≡ map sequence (range_with_len i 15)
 unfolding fifteen_before

@@ -3,7 +3,7 @@ use Rattle.std.proofs.Common.{◌≡◌, ℕ, ◌+◌, ◌-◌, ◌<◌, ◌≤�
 use Rattle.std.proofs.Common.{Some}
 use Rattle.std.proofs.Common.{None, refl, ap, sym, ◌∙◌, arith, append_assoc, length-append}
 use Rattle.std.proofs.lemmas.List.{length-take, take_at, take-append-le, take-append-drop}
-use Rattle.std.specs.Prelude.{IfSome, IsSomeAnd, min, slice_index_or, Result, Ok, Err, IfErr, OnErr}
+use Rattle.std.specs.Prelude.{IfSome, IsSomeAnd, min, Result, Ok, Err, IfErr, OnErr}
 use Rattle.std.specs.Option.{option_map}
 use Rattle.std.proofs.Math.Seq.{take-append-add}
 use Rattle.bit_slice.specs.declared.sink.SinkFault.{SinkFault}
@@ -16,16 +16,7 @@ use Rattle.bit_slice.proofs.WriterLemmas.{puts_none}
 pub fixed_puts : (all : ℕ) (old new more : List Bool) → new ≡ old ++ more → length old + length more ≤ all →
     Puts record { written = old; room = Some (all - length old); grows = false; below = [] } record
     { written = new; room = Some (all - length new); grows = false; below = [] } more
-fixed_puts all old new more is fits =
-    let size : length new ≡ length old + length more = ap length is ∙ length-append old more in
-    let left : all - length new ≡ all - length old - length more = omega arith in
-    record {
-      written = is;
-      fits = omega arith;
-      room = ap Some left;
-      grows = refl;
-      below = refl;
-    }
+fixed_puts all old new more is fits = grind (arith, length-append)
 
 -- a sink that grows
 pub grown_puts : (old new more : List Bool) → new ≡ old ++ more →
@@ -48,13 +39,7 @@ fits_on None b m n p f g = tt
 fits_on (Some r) b m n p f g = let h : n ≤ r - m = rw p at g in omega arith
 
 pub puts_on : (a b c : State) (x y : List Bool) → Puts a b x → Puts b c y → Puts a c (x ++ y)
-puts_on a b c x y p q = record {
-  written = q.written ∙ ap (λ (t : List Bool). t ++ y) p.written ∙ append_assoc a.written x y;
-  fits = rw (length-append x y) (fits_on a.room b.room (length x) (length y) p.room p.fits q.fits);
-  room = rw (length-append x y) (room_on a.room b.room c.room (length x) (length y) p.room q.room);
-  grows = q.grows ∙ p.grows;
-  below = q.below ∙ p.below;
-}
+puts_on a b c x y p q = grind (arith, append_assoc, length-append, fits_on, room_on)
 
 -- ---- sinks that keep nothing
 pub counted : (old more new : List Bool) (count need : ℕ) → count ≡ length old → need ≡ length more → new ≡ old ++ more
@@ -64,9 +49,7 @@ counted old more new count need is size all = sym (ap length all ∙ length-appe
 -- what is put through a sink around another stands behind what stood in that one
 pub through : (old new stood put more all : List Bool) → new ≡ old ++ more → old ≡ stood ++ put → all ≡ put ++ more
     → new ≡ stood ++ all
-through old new stood put more all is was joined = is ∙ ap (λ (t : List Bool). t ++ more) was
-    ∙ append_assoc stood put more
-    ∙ sym (ap (λ (t : List Bool). stood ++ t) joined)
+through old new stood put more all is was joined = grind (arith, append_assoc)
 
 -- ---- writers that stop
 cause_here : (a : State) (count total : ℕ) (fault : SinkFault) → Refuses a count fault → count ≤ total
@@ -75,11 +58,7 @@ cause_here a count total (Full need room) h inside = let needed = h.0 in (h.1, h
 cause_here a count total OutOfMemory h inside = h
 
 pub stops_here : StopsHere
-stops_here a bits count fault h inside = record {
-  count = 0;
-  front = puts_none a;
-  cause = cause_here a count (length bits) fault h inside;
-}
+stops_here a bits count fault h inside = grind (arith, puts_none, cause_here)
 
 pub stops_later : StopsLater
 stops_later a b c front more fault puts stops =
@@ -151,24 +130,11 @@ second_stops a b c front more bits (Err e) puts refused same is =
 
 -- ---- a sink around another one
 pub puts_through : PutsThrough
-puts_through s t bits p =
-    let first : List (List Bool) → List Bool = λ below. slice_index_or below 0 [] in
-    record {
-      written = ap (λ (below : List (List Bool)). first below ++ t.written) p.below
-          ∙ ap (λ (more : List Bool). s.written ++ more) p.written;
-      fits = p.fits;
-      room = p.room;
-      grows = p.grows;
-      below = ap (λ (below : List (List Bool)). drop 1 below) p.below;
-    }
+puts_through s t bits p = grind arith
 
 cause_through : (t : State) (left : ℕ) (fault : SinkFault) → StopsFor t left fault → StopsFor (unwrapped t) left fault
 cause_through t left (Full need room) h = h
 cause_through t left OutOfMemory h = h
 
 pub stops_through : StopsThrough
-stops_through s t bits fault stops = record {
-  count = stops.count;
-  front = puts_through s t (take stops.count bits) stops.front;
-  cause = cause_through t (length bits - stops.count) fault stops.cause;
-}
+stops_through s t bits fault stops = grind (arith, puts_through, cause_through)

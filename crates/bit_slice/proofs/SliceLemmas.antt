@@ -45,13 +45,7 @@ bits_of_borrowed bytes out first len bits seen within aligned size to e same =
 -- how the code reads a bit
 pub bit_read : (bytes : List ℕ) (place : ℕ) → place < 8 * length bytes
     → (bit_and (get_or bytes (place / 8) 0 / 2 ^ (7 - place % 8)) 1 == 1) ≡ get_or (bits_of bytes) place false
-bit_read bytes place h =
-    let whole : place ≡ 8 * (place / 8) + place % 8 = omega arith in
-    let below : place % 8 < 8 = omega arith in
-    let inside : place / 8 < length bytes = omega arith in
-    ap (λ (n : ℕ). n == 1) (shr_and_one (get_or bytes (place / 8) 0) (7 - place % 8))
-    ∙ sym (ap (λ (k : ℕ). get_or (bits_of bytes) k false) whole ∙ get_or-bits_of bytes (place / 8) (place % 8)
-    below inside)
+bit_read bytes place h = grind (arith, shr_and_one, get_or-bits_of)
 
 -- one more byte behind a number
 pub number_more : (bytes : List ℕ) (i number : ℕ) → i < length bytes → i < 16 → get_or bytes i 0 < 256

@@ -36,10 +36,7 @@ sum_of a b c d = bit_xor (bit_xor (bit_xor a b) c) d
 -- ---- sums of sums
 sums_swap : (a b c d p q r s : ℕ) → sum_of (bit_xor a p) (bit_xor b q) (bit_xor c r) (bit_xor d s)
     ≡ bit_xor (sum_of a b c d) (sum_of p q r s)
-sums_swap a b c d p q r s =
-    ap (λ (x : ℕ). bit_xor (bit_xor x (bit_xor c r)) (bit_xor d s)) (xor_swap a p b q)
-    ∙ ap (λ (x : ℕ). bit_xor x (bit_xor d s)) (xor_swap (bit_xor a b) (bit_xor p q) c r)
-    ∙ xor_swap (bit_xor (bit_xor a b) c) (bit_xor (bit_xor p q) r) d s
+sums_swap a b c d p q r s = grind (arith, xor_swap)
 
 sum_lt : (a b c d : ℕ) → a < 2 ^ 32 → b < 2 ^ 32 → c < 2 ^ 32 → d < 2 ^ 32 → sum_of a b c d < 2 ^ 32
 sum_lt a b c d p q r s = xor_lt 32 (bit_xor (bit_xor a b) c) d (xor_lt 32 (bit_xor a b) c (xor_lt 32 a b p q) r) s
@@ -52,12 +49,7 @@ on_xor n a b p q = zeros_xor 32 0x04C1_1DB7 (omega arith) n a b p q
 
 on_sum : (n a b c d : ℕ) → a < 2 ^ 32 → b < 2 ^ 32 → c < 2 ^ 32 → d < 2 ^ 32 →
     on n (sum_of a b c d) ≡ sum_of (on n a) (on n b) (on n c) (on n d)
-on_sum n a b c d p q r s =
-    let two : bit_xor a b < 2 ^ 32 = xor_lt 32 a b p q in
-    let three : bit_xor (bit_xor a b) c < 2 ^ 32 = xor_lt 32 (bit_xor a b) c two r in
-    on_xor n (bit_xor (bit_xor a b) c) d three s
-    ∙ ap (λ (x : ℕ). bit_xor x (on n d)) (on_xor n (bit_xor a b) c two r
-    ∙ ap (λ (x : ℕ). bit_xor x (on n c)) (on_xor n a b p q))
+on_sum n a b c d p q r s = search (arith, xor_lt, on_xor)
 
 on-on : (m n s : ℕ) → on m (on n s) ≡ on n (on m s)
 on-on m n s =
@@ -82,18 +74,10 @@ unfolding zeros
 comes_one = refl
 
 comes_on : (n s : ℕ) → s < 2 ^ 32 → Comes s → Comes (on n s)
-comes_on n s fits h =
-    rw (on-on 712 n s, on-on 936 n s, on-on 1240 n s, on-on 2400 n s)
-    (sym (on_sum n (on 712 s) (on 936 s) (on 1240 s) (on 2400 s) (on_lt 712 s fits) (on_lt 936 s fits)
-    (on_lt 1240 s fits)
-    (on_lt 2400 s fits))
-    ∙ ap (zeros 32 0x04C1_1DB7 n) h)
+comes_on n s fits h = grind (arith, on-on, on_sum, on_lt)
 
 comes_sum : (a b : ℕ) → a < 2 ^ 32 → b < 2 ^ 32 → Comes a → Comes b → Comes (bit_xor a b)
-comes_sum a b p q h k =
-    rw (on_xor 712 a b p q, on_xor 936 a b p q, on_xor 1240 a b p q, on_xor 2400 a b p q)
-    (sums_swap (on 712 a) (on 936 a) (on 1240 a) (on 2400 a) (on 712 b) (on 936 b) (on 1240 b) (on 2400 b)
-    ∙ ap (λ (x : ℕ). bit_xor x (sum_of (on 712 b) (on 936 b) (on 1240 b) (on 2400 b))) h ∙ ap (bit_xor a) k)
+comes_sum a b p q h k = grind (arith, on_xor, sums_swap)
 
 comes_bit : (b : ℕ) → b < 2 → Comes b
 comes_bit zero h = comes_zero
@@ -176,15 +160,7 @@ stood_is : (f : ℕ → ℕ) → Bytes f → (p : ℕ) →
     (front 0 (λ k. f (p + k)) 300)
     ≡ stood f p
 unfolding stood
-stood_is f small p =
-    let s : ℕ = front 0 f p in
-    let a : ℕ = front 0 f (p + 89) in
-    let b : ℕ = front 0 f (p + 117) in
-    let c : ℕ = front 0 f (p + 155) in
-    let d : ℕ = front 0 f (p + 300) in
-    rw (front_behind f small p 89, front_behind f small p 117, front_behind f small p 155, front_behind f small p 300)
-    (sums_swap a b c d (on 712 s) (on 936 s) (on 1240 s) (on 2400 s)
-    ∙ ap (bit_xor (sum_of a b c d)) (comes_all s (front_lt 0 f (omega arith) small p)) ∙ xor_comm (sum_of a b c d) s)
+stood_is f small p = grind (arith, front, front_behind, sums_swap, comes_all, front_lt, xor_comm)
 
 stood_lt : (f : ℕ → ℕ) → Bytes f → (p : ℕ) → stood f p < 2 ^ 32
 unfolding stood
@@ -206,14 +182,7 @@ front_more f p a = let e : suc p + a ≡ suc (p + a) = omega arith in rw e refl
 
 raised : (a b c d e : ℕ) → bit_xor (a * 2 ^ 24) (sum_of (b * 2 ^ 24) (c * 2 ^ 24) (d * 2 ^ 24) (e * 2 ^ 24))
     ≡ bit_xor a (sum_of b c d e) * 2 ^ 24
-raised a b c d e =
-    rw (
-      xor_shl b c 24,
-      xor_shl (bit_xor b c) d 24,
-      xor_shl (bit_xor (bit_xor b c) d) e 24,
-      xor_shl a
-          (sum_of b c d e) 24,
-    ) refl
+raised a b c d e = search (arith, xor_shl)
 
 stood_more : (f : ℕ → ℕ) → Bytes f → (p : ℕ) → stood f (suc p) ≡ on 8 (bit_xor (stood f p) (met f p * 2 ^ 24))
 unfolding stood front Bytes
@@ -260,11 +229,7 @@ stood_on f g small (suc n) each =
 -- ---- lists
 register_one : (s b : ℕ) → s < 2 ^ 32 → b < 256 → register 32 0x04C1_1DB7 s (bits_of (b ∷ [])) ≡ on 8
     (bit_xor s (b * 2 ^ 24))
-register_one s b fits byte =
-    let few : length (field 8 b) ≤ 32 = rw (length-field 8 b) (omega arith) in
-    ap (register 32 0x04C1_1DB7 s) (append-nil (field 8 b))
-    ∙ rw (length-field 8 b, number_of-field 8 b byte) at (register_is_zeros 32 0x04C1_1DB7 (omega arith)
-    (field 8 b) s fits few)
+register_one s b fits byte = grind (arith, length-field, append-nil, number_of-field, register_is_zeros)
 
 front_is : (s : ℕ) (xs : List ℕ) → s < 2 ^ 32 → Bytes (λ k. get_or xs k 0) → (n : ℕ) → n ≤ length xs →
     front s (λ k. get_or xs k 0) n ≡ register 32 0x04C1_1DB7 s (bits_of (take n xs))
@@ -331,9 +296,7 @@ dropped_lt xs n small k = rw (get_or-drop n xs k 0) (small (n + k))
 front_dropped : (xs : List ℕ) → ((k : ℕ) → get_or xs k 0 < 256) → (n a : ℕ) → n + a ≤ length xs
     → front_register a (drop n xs)
     ≡ front 0 (λ k. get_or xs (n + k) 0) a
-front_dropped xs small n a few =
-    front_of (drop n xs) (dropped_lt xs n small) a (omega (arith, length-drop n xs))
-    ∙ front_same 0 (λ k. get_or (drop n xs) k 0) (λ k. get_or xs (n + k) 0) a (λ k h. get_or-drop n xs k 0)
+front_dropped xs small n a few = grind (arith, front_of, dropped_lt, length-drop, front_same, get_or-drop)
 
 window_dropped : (xs : List ℕ) → ((k : ℕ) → get_or xs k 0 < 256) → (n : ℕ) → n + 300 ≤ length xs
     → window_register (drop n xs)
@@ -430,16 +393,17 @@ register_zeros (suc n) s fits =
 front_begun : (s : ℕ) (word : List ℕ) (n : ℕ) → s < 2 ^ 32 → length word ≡ 4 → number_of (bits_of word) ≡ s →
     register 32 0x04C1_1DB7 0 (bits_of (word ++ replicate n 0)) ≡ on (32 + 8 * n) s
 front_begun s word n fits four is =
-    let bits : length (bits_of word) ≡ 32 = length-bits_of word ∙ ap (λ (k : ℕ). 8 * k) four in
-    let e : s * 2 ^ (32 - 32) ≡ s = omega arith in
-    let first : register 32 0x04C1_1DB7 0 (bits_of word) ≡ on 32 s =
-    rw (bits, is, e, xor_zero_l s) at
-    (register_is_zeros 32 0x04C1_1DB7 (omega arith) (bits_of word) 0 (omega arith) (omega (arith, bits))) in
-    ap (register 32 0x04C1_1DB7 0) (bits_of-append word (replicate n 0))
-    ∙ register-append 32 0x04C1_1DB7 0 (bits_of word) (bits_of (replicate n 0))
-    ∙ ap (λ (x : ℕ). register 32 0x04C1_1DB7 x (bits_of (replicate n 0))) first
-    ∙ register_zeros n (on 32 s) (on_lt 32 s fits)
-    ∙ sym (zeros-add 32 0x04C1_1DB7 32 (8 * n) s)
+    grind (
+      arith,
+      length-bits_of,
+      xor_zero_l,
+      register_is_zeros,
+      bits_of-append,
+      register-append,
+      register_zeros,
+      on_lt,
+      zeros-add,
+    )
 
 pub begun : (s : ℕ) (word : List ℕ) → s < 2 ^ 32 → length word ≡ 4 → number_of (bits_of word) ≡ s →
     window_register (word ++ replicate 296 0) ≡ s
@@ -458,13 +422,13 @@ begun s word fits four is = absurd (omega arith)
 -- the same in room for more
 pub begun_in : (s : ℕ) (word piece old : List ℕ) → s < 2 ^ 32 → length word ≡ 4 → bits_of word ≡ field 32 s
     → piece ≡ word
-    → old ≡ replicate 1324 0 → window_register (take 300 (piece ++ drop 4 old)) ≡ s
+    → old ≡ replicate 1452 0 → window_register (take 300 (piece ++ drop 4 old)) ≡ s
 begun_in s word piece old fits four bits is zeros =
     let spelled : number_of (bits_of word) ≡ s = ap number_of bits ∙ number_of-field 32 s fits in
     let e : 300 ≡ length word + 296 = omega (arith, four) in
-    let left : take 300 (word ++ replicate 1320 0) ≡ word ++ replicate 296 0 =
-    ap (λ (n : ℕ). take n (word ++ replicate 1320 0)) e ∙ take-append-add word (replicate 1320 0) 296 in
-    let put : piece ++ drop 4 old ≡ word ++ replicate 1320 0 = rw (is, zeros) refl in
+    let left : take 300 (word ++ replicate 1448 0) ≡ word ++ replicate 296 0 =
+    ap (λ (n : ℕ). take n (word ++ replicate 1448 0)) e ∙ take-append-add word (replicate 1448 0) 296 in
+    let put : piece ++ drop 4 old ≡ word ++ replicate 1448 0 = rw (is, zeros) refl in
     ap (λ (xs : List ℕ). window_register (take 300 xs)) put ∙ ap window_register left ∙ begun s word fits four spelled
 
 -- ---- the register of sums, by a walk over them
@@ -472,10 +436,7 @@ pub front_on : (sums : List ℕ) (a b last : ℕ) → last ≡ register 32 0x04C
     (bits_of (take b (drop a sums)))
     → last ≡ front_register (a + b) sums
 unfolding front_register
-front_on sums a b last is =
-    is ∙ sym (register-append 32 0x04C1_1DB7 0 (bits_of (take a sums)) (bits_of (take b (drop a sums))))
-    ∙ ap (register 32 0x04C1_1DB7 0) (sym (bits_of-append (take a sums) (take b (drop a sums)))
-    ∙ ap bits_of (sym (take-add a b sums)))
+front_on sums a b last is = grind (arith, register-append, bits_of-append, take-add)
 
 -- ---- a block's sums behind others, in room for more
 sum_byte : (sums bytes : List ℕ) → ((k : ℕ) → get_or sums k 0 < 256) → ((k : ℕ) → get_or bytes k 0 < 256) → (k : ℕ)
@@ -492,17 +453,11 @@ sum_byte sums bytes small small_bytes k =
 
 more_byte : (sums bytes more : List ℕ) → AreSums sums bytes more → ((k : ℕ) → get_or sums k 0 < 256)
     → ((k : ℕ) → get_or bytes k 0 < 256) → (k : ℕ) → get_or more k 0 < 256
-more_byte sums bytes more are small small_bytes k = ⊎_elim
-    (λ less. subst (λ (x : ℕ). x < 256) (sym (are.each k less)) (sum_byte sums bytes small small_bytes k))
-    (λ beyond. let e = get_or_past more k 0 (omega (arith, are.len, beyond)) in omega (arith, e))
-    (cases_lt k (length bytes))
+more_byte sums bytes more are small small_bytes k = grind (arith, sum_byte, get_or_past, cases_lt)
 
 joined_byte : (sums more : List ℕ) → ((k : ℕ) → get_or sums k 0 < 256) → ((k : ℕ) → get_or more k 0 < 256) → (k : ℕ)
     → get_or (sums ++ more) k 0 < 256
-joined_byte sums more small small_more k = ⊎_elim
-    (λ less. subst (λ (x : ℕ). x < 256) (sym (get_or_append_left sums more 0 k less)) (small k))
-    (λ beyond. subst (λ (x : ℕ). x < 256) (sym (get_or-append_right sums more (length sums) k 0 refl beyond))
-    (small_more (k - length sums))) (cases_lt k (length sums))
+joined_byte sums more small small_more k = grind (arith, get_or_append_left, get_or-append_right, cases_lt)
 
 part_byte : (old : List ℕ) (at : ℕ) → at + 300 ≤ length old → ((k : ℕ) → get_or old k 0 < 256) → (k : ℕ)
     → get_or (take 300 (drop at old)) k 0 < 256
@@ -520,44 +475,44 @@ settled old new at room is =
     ap (take 300) (is ∙ ap (paste old 0 (drop at old)) e)
     ∙ take-paste old 0 (drop at old) 300 (omega arith) (omega (arith, length-drop at old))
 
-pub put : (old bytes more : List ℕ) (at : ℕ) → at + 428 ≤ length old → length bytes ≡ 128
+pub put : (old bytes more : List ℕ) (at : ℕ) → at + 444 ≤ length old → length bytes ≡ 144
     → AreSums (take 300 (drop at old)) bytes more → ((k : ℕ) → get_or old k 0 < 256)
     → ((k : ℕ) → get_or bytes k 0 < 256) →
-    window_register (take 300 (drop (at + 128) (take (at + 300) old ++ (more ++ drop 128 (drop (at + 300) old)))))
+    window_register (take 300 (drop (at + 144) (take (at + 300) old ++ (more ++ drop 144 (drop (at + 300) old)))))
     ≡ register 32 0x04C1_1DB7 (window_register (take 300 (drop at old))) (bits_of bytes)
 put old bytes more at room size are small small_bytes =
     let sums : List ℕ = take 300 (drop at old) in
-    let rest : List ℕ = drop 128 (drop (at + 300) old) in
+    let rest : List ℕ = drop 144 (drop (at + 300) old) in
     let long : length sums ≡ 300 = length-take-le 300 (drop at old) (omega (arith, length-drop at old)) in
     let small_sums : (k : ℕ) → get_or sums k 0 < 256 = part_byte old at (omega arith) small in
     let small_more : (k : ℕ) → get_or more k 0 < 256 = more_byte sums bytes more are small_sums small_bytes in
     let head : List ℕ = take (at + 300) old in
     let long_head : length head ≡ at + 300 = length-take-le (at + 300) old (omega arith) in
-    let e : 128 + at ≡ at + 128 = omega arith in
-    let kept : drop (at + 128) head ≡ drop 128 sums =
-    sym (drop-drop 128 at head) ∙ ap (drop 128) (drop-take at 300 old) in
-    let left : List ℕ = drop 128 sums ++ more in
+    let e : 144 + at ≡ at + 144 = omega arith in
+    let kept : drop (at + 144) head ≡ drop 144 sums =
+    sym (drop-drop 144 at head) ∙ ap (drop 144) (drop-take at 300 old) in
+    let left : List ℕ = drop 144 sums ++ more in
     let long_left : length left ≡ 300 =
-    length-append (drop 128 sums) more ∙ omega (arith, length-drop 128 sums, long, are.len, size) in
-    let split : drop (at + 128) (head ++ (more ++ rest)) ≡ left ++ rest =
-    drop-append-le (at + 128) head (more ++ rest) (omega (arith, long_head))
+    length-append (drop 144 sums) more ∙ omega (arith, length-drop 144 sums, long, are.len, size) in
+    let split : drop (at + 144) (head ++ (more ++ rest)) ≡ left ++ rest =
+    drop-append-le (at + 144) head (more ++ rest) (omega (arith, long_head))
     ∙ ap (λ (xs : List ℕ). xs ++ (more ++ rest)) kept
-    ∙ sym (append_assoc (drop 128 sums) more rest) in
-    let is : take 300 (drop (at + 128) (head ++ (more ++ rest))) ≡ left = ap (take 300) split
+    ∙ sym (append_assoc (drop 144 sums) more rest) in
+    let is : take 300 (drop (at + 144) (head ++ (more ++ rest))) ≡ left = ap (take 300) split
     ∙ take_at left rest 300 long_left in
-    let n : drop (length bytes) sums ≡ drop 128 sums = ap (λ (k : ℕ). drop k sums) size in
+    let n : drop (length bytes) sums ≡ drop 144 sums = ap (λ (k : ℕ). drop k sums) size in
     ap window_register is ∙ ap (λ (xs : List ℕ). window_register (xs ++ more)) (sym n)
     ∙ passed_on sums bytes more long (omega (arith, size)) are (joined_byte sums more small_sums small_more) small_bytes
 
 -- the same, as the program writes it
-pub put_again : (old bytes more piece : List ℕ) (at : ℕ) → at + 428 ≤ length old → length bytes ≡ 128
+pub put_again : (old bytes more piece : List ℕ) (at : ℕ) → at + 444 ≤ length old → length bytes ≡ 144
     → AreSums (take (at + 300 - at) (drop at old)) bytes more → piece ≡ more
     → ((k : ℕ) → get_or old k 0 < 256) → ((k : ℕ) → get_or bytes k 0 < 256) →
     window_register (take 300
-    (drop (at + 128) (take (at + 300) old ++ (piece ++ drop (at + 300 + 128 - (at + 300)) (drop (at + 300) old)))))
+    (drop (at + 144) (take (at + 300) old ++ (piece ++ drop (at + 300 + 144 - (at + 300)) (drop (at + 300) old)))))
     ≡ register 32 0x04C1_1DB7 (window_register (take 300 (drop at old))) (bits_of bytes)
 put_again old bytes more piece at room size are is small small_bytes =
     let e : at + 300 - at ≡ 300 = omega arith in
-    let n : at + 300 + 128 - (at + 300) ≡ 128 = omega arith in
+    let n : at + 300 + 144 - (at + 300) ≡ 144 = omega arith in
     let sums : AreSums (take 300 (drop at old)) bytes more = rw e at are in
     rw (is, n) (put old bytes more at room size sums small small_bytes)

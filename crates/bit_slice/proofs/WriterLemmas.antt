@@ -1,5 +1,5 @@
 -- A writer that puts one part behind others: what it has put, and where it stops. Crates of writers cite these.
-use Rattle.std.proofs.Common.{◌≡◌, ℕ, ◌-◌, ◌≤◌, Bool, List, [], ◌++◌, length, Option, Some, None, refl, ap, sym, arith}
+use Rattle.std.proofs.Common.{◌≡◌, ℕ, ◌-◌, ◌≤◌, Bool, List, [], ◌++◌, length, Option, Some, None, refl, ap, arith}
 use Rattle.std.proofs.Common.{append-nil}
 use Rattle.std.specs.Prelude.{Result, Ok, Err, OnOk, OnErr, IfErr, IfSome, option_map}
 use Rattle.bit_slice.specs.declared.sink.SinkFault.{SinkFault}
@@ -42,10 +42,4 @@ fits_none None = tt
 fits_none (Some r) = omega arith
 
 pub puts_none : (a : State) → Puts a a []
-puts_none a = record {
-  written = sym (append-nil a.written);
-  fits = fits_none a.room;
-  room = room_same a.room;
-  grows = refl;
-  below = refl;
-}
+puts_none a = grind (arith, append-nil, fits_none, room_same)

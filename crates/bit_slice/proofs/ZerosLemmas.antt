@@ -151,14 +151,10 @@ register_is_zeros d low small (b ∷ bs) s fits few =
 
 -- what moves up by n places, if there is room
 pub zeros_moved : (d low n m x y : ℕ) → x * 2 ^ n ≡ y → y < 2 ^ d → zeros d low (n + m) x ≡ zeros d low m y
-zeros_moved d low n m x y e fits =
-    let room : x * 2 ^ n < 2 ^ d = rw e fits in
-    zeros-add d low n m x ∙ ap (zeros d low m) (zeros_low d low n x room ∙ e)
+zeros_moved d low n m x y e fits = grind (arith, zeros-add, zeros_low)
 
 -- a register over bits that are put one behind the other
 pub registered : (degree low s put_s next : ℕ) (put more all : List Bool) → put_s ≡ register degree low s put
     → next ≡ register degree low put_s more → all ≡ put ++ more →
     next ≡ register degree low s all
-registered degree low s put_s next put more all is step joined =
-    step ∙ ap (λ (r : ℕ). register degree low r more) is ∙ sym (register-append degree low s put more)
-    ∙ sym (ap (register degree low s) joined)
+registered degree low s put_s next put more all is step joined = grind (arith, register-append)

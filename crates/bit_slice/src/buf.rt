@@ -31,7 +31,7 @@ impl Model for BitBuf {
         × Holds b.bytes.items (take b.used (bits_of b.bytes.items)) };
 }
 
-// Makes room for more bits behind those used, zeros at first. `false` if no memory was found.
+// Makes room for more bits behind those used. `false` if no memory was found.
 fn lengthen(bytes: &mut Vec<u8>, used: usize, more: usize) -> bool
     requires len { vec_len bytes.old ≡ bytes_for used }
     requires short { vec_len bytes.old < 2 ^ 60 }

@@ -1,4 +1,4 @@
-//! Bits behind other bits in bytes. Behind the bits that are used there are zeros.
+//! Bits behind other bits in bytes. Behind the bits that are used their last byte has zeros.
 ghost use Rattle.std.specs.Prelude.{◌≡◌, ◌+◌, ◌-◌, ◌*◌, ◌/◌, ◌%◌, ◌^◌, ◌<◌, ◌≤◌, ◌++◌, List, Bool, length, take};
 ghost use Rattle.std.specs.Prelude.{drop};
 ghost use Rattle.terms.specs.Bits.{field, bits_of, bytes_of, number_of, part};
@@ -100,7 +100,7 @@ pub fn put_bits(bytes: &mut [u8], used: usize, bits: &BitSlice<'_>)
     put_part(bytes, used + last, bits, last, (len - last) as u32);
 }
 
-/// The bytes that bits fill at the front of some, of which the rest is zeros.
+/// The bytes that bits fill at the front of some.
 pub fn filled(bytes: &[u8], used: usize) -> &[u8]
     requires inside { used ≤ 8 * length bytes.now }
     requires holds { Holds bytes.now (take used (bits_of bytes.now)) }

@@ -37,12 +37,10 @@ impl<const N: usize> FixedBits<N> {
         }
     }
 
-    /// Gives all bits up. Only the bytes that have some are written.
+    /// Gives all bits up.
     pub fn clear(&mut self)
         ensures { self.new ≡ [] }
     {
-        let end = self.used.div_ceil(8);
-        self.bytes[..end].fill(0);
         self.used = 0;
     }
 

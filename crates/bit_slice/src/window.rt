@@ -11,7 +11,7 @@ use crate::crc_32::after_few;
 use std::marker::Model;
 
 /// How many bytes are taken at once. They are fewer than 145, so that none of them comes to another one.
-pub const BLOCK: usize = 128;
+pub const BLOCK: usize = 144;
 
 // How far a byte comes.
 const SPAN: usize = 300;
@@ -69,7 +69,7 @@ fn sums_of(sums: &[u8], block: &[u8; BLOCK]) -> [u8; BLOCK]
 fn settle(sums: &mut [u8; ROOM], at: usize) -> usize
     requires { at + 300 ≤ ROOM }
     ensures sums { take 300 (drop result sums.new) ≡ take 300 (drop at sums.old) }
-    ensures room { result + 428 ≤ ROOM }
+    ensures room { result + 444 ≤ ROOM }
 {
     if ROOM - at >= SPAN + BLOCK {
         return at;
@@ -80,8 +80,8 @@ fn settle(sums: &mut [u8; ROOM], at: usize) -> usize
 
 // Puts the sums of a block behind the sums that begin at a place.
 fn put_behind(sums: &mut [u8; ROOM], at: usize, block: &[u8; BLOCK])
-    requires { at + 428 ≤ ROOM }
-    ensures { window_register (take 300 (drop (at + 128) sums.new))
+    requires { at + 444 ≤ ROOM }
+    ensures { window_register (take 300 (drop (at + 144) sums.new))
         ≡ register_of 32 0x04C1_1DB7 (window_register (take 300 (drop at sums.old))) (bits_of block.now) }
 {
     let end = at + SPAN;

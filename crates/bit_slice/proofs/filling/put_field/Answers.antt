@@ -25,4 +25,4 @@ returns-clause-holds c = λ bits long held.
     ∙ window_front c.window-window.result (drop (8 * first) bits ++ more) count whole few (omega (arith, end)) in
     placed c.args.bytes.now _ c.copy_from_slice.new.self bits more first count held refl
     (omega (arith, end, c.copy_from_slice.ensures.len))
-    (omega (arith, long)) (omega (arith, long, wide, end)) (omega (arith, end)) put
+    (omega (arith, long)) (omega (arith, long, wide, end)) put

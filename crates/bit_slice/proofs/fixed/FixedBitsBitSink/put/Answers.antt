@@ -6,6 +6,12 @@ use Rattle.bit_slice.proofs.FillingLemmas.{seen_long, seen_more, holds_seen}
 use Rattle.bit_slice.proofs.SinkLemmas.{fixed_puts}
 use Rattle.bit_slice.proofs.fixed.FixedBitsBitSink.put.Goals as goal
 
+pub put_field-requires-clause-inside : goal.put_field-requires-clause-inside
+put_field-requires-clause-inside g c =
+    let long = seen_long c.self.inside.bytes c.args.self.now c.self.inside.used c.self.view_is
+    (omega (arith, c.self.told, c.self.invariant.0)) in
+    omega (arith, c.room-room.ensures.room, long, c.self.told)
+
 pub invariant_of-self : goal.invariant_of-self
 invariant_of-self g c =
     let bits = c.args.self.now in

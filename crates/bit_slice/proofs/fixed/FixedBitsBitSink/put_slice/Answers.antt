@@ -4,6 +4,12 @@ use Rattle.bit_slice.proofs.FillingLemmas.{seen_long, seen_more, holds_seen}
 use Rattle.bit_slice.proofs.SinkLemmas.{fixed_puts}
 use Rattle.bit_slice.proofs.fixed.FixedBitsBitSink.put_slice.Goals as goal
 
+pub put_bits-requires-clause-inside : goal.put_bits-requires-clause-inside
+put_bits-requires-clause-inside g c =
+    let long = seen_long c.self.inside.bytes c.args.self.now c.self.inside.used c.self.view_is
+    (omega (arith, c.self.told, c.self.invariant.0)) in
+    omega (arith, c.room-room.ensures.room, long, c.self.told, c.len-len.ensures.len)
+
 pub invariant_of-self : goal.invariant_of-self
 invariant_of-self g c =
     let bits = c.args.self.now in
