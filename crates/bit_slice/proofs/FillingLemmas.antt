@@ -34,22 +34,14 @@ take-padded bits k n few less =
 
 -- a front of the bits, and the rest filled up
 cut-padded : (bits : List Bool) (k n : ℕ) → k ≤ length bits → drop k (padded bits n) ≡ padded (drop k bits) (n - k)
-cut-padded bits k n inside =
-    let left : n - length bits ≡ n - k - length (drop k bits) = omega (arith, length-drop k bits) in
-    drop-append-le k bits (replicate (n - length bits) false) inside ∙ ap (λ (i : ℕ). drop k bits ++ replicate i false)
-    left
+cut-padded bits k n inside = grind (arith, length-drop, drop-append-le)
 
 -- bits in front of others
 padded-behind : (front bits : List Bool) (n : ℕ) → front ++ padded bits n ≡ padded (front ++ bits) (length front + n)
-padded-behind front bits n =
-    let left : n - length bits ≡ length front + n - length (front ++ bits) = omega (arith, length-append front bits) in
-    sym (append_assoc front bits (replicate (n - length bits) false))
-    ∙ ap (λ (i : ℕ). (front ++ bits) ++ replicate i false) left
+padded-behind front bits n = grind (arith, length-append, append_assoc)
 
 number_of-padded : (bits : List Bool) (n : ℕ) → number_of (padded bits n) ≡ number_of bits * 2 ^ (n - length bits)
-number_of-padded bits n =
-    number_of-append bits (replicate (n - length bits) false)
-    ∙ rw (length-replicate (n - length bits) false, number_of-zeros (n - length bits)) (omega arith)
+number_of-padded bits n = grind (arith, number_of-append, length-replicate, number_of-zeros)
 
 -- ---- how many bytes the bits fill
 fills : (bytes : List ℕ) (bits : List Bool) → Holds bytes bits → bytes_for (length bits) ≤ length bytes
@@ -144,9 +136,7 @@ window_front window bits count is few short =
 pub begun_none : (bits : List Bool) (used : ℕ) → length bits ≡ used → used % 8 ≡ 0
     → 0 ≡ number_of (drop (8 * (used / 8)) bits)
     * 2 ^ (8 - used % 8)
-begun_none bits used long none =
-    let all : drop (8 * (used / 8)) bits ≡ [] = drop_all (8 * (used / 8)) bits (omega arith) in
-    rw all (omega arith)
+begun_none bits used long none = grind (arith, drop_all)
 
 -- a byte that the bits fill
 byte_of : (bytes : List ℕ) (bits : List Bool) (k : ℕ) → Holds bytes bits → get_or bytes k 0 < 256
@@ -245,13 +235,7 @@ pub bytes_placed : (old piece : List ℕ) (front bits : List Bool) (used at coun
     → bits_of piece ≡ part bits at (8 * count) →
     Holds (take (used / 8) old ++ (piece ++ drop size (drop (used / 8) old))) (front ++ part bits at (8 * count))
 bytes_placed old piece front bits used at count size held long aligned inside same is =
-    let more : List Bool = part bits at (8 * count) in
-    let wide : length more ≡ 8 * count = length-part bits at (8 * count) inside in
-    let none : drop (8 * (used / 8)) front ≡ [] = drop_all (8 * (used / 8)) front (omega arith) in
-    let full : 8 * size - length more ≡ 0 = omega (arith, wide, same) in
-    placed old _ piece front more (used / 8) size held refl
-    (omega (arith, length-bits_of piece, ap length is, wide, same))
-    (omega arith) (omega (arith, wide)) (is ∙ rw (none, full) (sym (append-nil more)))
+    grind (arith, length-part, drop_all, placed, length-bits_of, append-nil)
 
 -- the bits as one part
 pub all_put : (bytes : List ℕ) (front bits : List Bool) (len : ℕ) → len ≡ length bits
@@ -283,10 +267,7 @@ parts_put bytes front bits head middle last rest place left inside held =
 pub resized : (old new : List ℕ) (bits : List Bool) (ok : Bool) (n size : ℕ) → ok ≡ true
     → new ≡ (if ok then take n old ++ replicate (n - size) 0 else old) →
     length old ≤ n → Holds old bits → Holds new bits
-resized old new bits ok n size yes_ok is more held =
-    let all : new ≡ old ++ replicate (n - size) 0 =
-    is ∙ rw yes_ok (ap (λ (xs : List ℕ). xs ++ replicate (n - size) 0) (take_all n old more)) in
-    rw (all, take-append-le (bytes_for (length bits)) old (replicate (n - size) 0) (fills old bits held)) held
+resized old new bits ok n size yes_ok is more held = grind (arith, take_all, take-append-le, fills)
 
 -- how many bits are seen
 pub seen_long : (bytes : List ℕ) (bits : List Bool) (used : ℕ) → take used (bits_of bytes) ≡ bits
@@ -301,11 +282,4 @@ written_back xs ys n e = take_at xs (drop (length xs) ys) n e
 
 -- a field is the end of a wider one
 pub field_end : (width all value : ℕ) → width ≤ all → part (field all value) (all - width) width ≡ field width value
-field_end width all value narrow =
-    let sum : all - width + width ≡ all = omega arith in
-    let front : ℕ = all - width in
-    let few : length (field width value) ≤ width = omega (arith, length-field width value) in
-    ap (λ (k : ℕ). part (field k value) front width) (sym sum)
-    ∙ ap (λ (bits : List Bool). part bits front width) (field-add front width value)
-    ∙ ap (take width) (drop-field front (value / 2 ^ width) (field width value))
-    ∙ take_all width (field width value) few
+field_end width all value narrow = grind (arith, length-field, field-add, drop-field, take_all)
