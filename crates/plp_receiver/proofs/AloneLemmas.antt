@@ -1,5 +1,5 @@
 -- Interleaving frames that are carried by one frame.
-use Rattle.std.proofs.Common.{◌≡◌, ℕ, ◌+◌, ◌-◌, ◌*◌, ◌%◌, ◌==◌, ◌<◌, Bool, true, List, [], ◌∷◌, length, take}
+use Rattle.std.proofs.Common.{◌≡◌, ℕ, ◌+◌, ◌-◌, ◌%◌, ◌==◌, ◌<◌, Bool, true, List, [], ◌∷◌, length, take}
 use Rattle.std.proofs.Common.{drop, Option, Some, None, refl, ap, ap₂, ◌∙◌, sym, arith, cond}
 use Rattle.std.specs.Prelude.{nat_le, option_map, slice_get, slice_index}
 use Rattle.std.specs.List.{range_with_len}
@@ -36,19 +36,7 @@ module _ (c : Config) (plp first : ℕ) (views : List RecordView) (one : spread 
 
   parts_are : (place : ℕ) (v : RecordView) → slice_get views place ≡ Some v
       → epoch_parts c plp first views (first + place) ≡ option_map (λ p. p ∷ []) (part_of c (first + place) v)
-  parts_are place v e =
-      let m : ℕ = first + place in
-      let same : m * 1 ≡ m = omega arith in
-      let there : nat_le first m ≡ true = le-leb first m (omega arith) in
-      let at : m - first ≡ place = omega arith in
-      ap (λ (s : ℕ). parts_by s (m * s)) one
-      ∙ ap (parts_by 1) same
-      ∙ ap (λ (b : Bool). cond {A = Option (List Part)} b
-      (agreeing plp (parts_of c m (take 1 (drop (m - first) views)))) None)
-      there
-      ∙ ap (λ (k : ℕ). agreeing plp (parts_of c m (take 1 (drop k views)))) at
-      ∙ ap (λ (l : List RecordView). agreeing plp (parts_of c m l)) (one_taken views place v e)
-      ∙ parts_of_one c plp m v
+  parts_are place v e = grind (arith, le-leb, Option, one_taken, parts_of_one)
 
   epochs_are : epochs_in (spread c.plps plp) first (length views) ≡ range_with_len first (length views)
   epochs_are = ap (λ (s : ℕ). epochs_in s first (length views)) one ∙ ap₂ range_with_len (omega arith) (omega arith)

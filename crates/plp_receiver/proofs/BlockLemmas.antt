@@ -57,35 +57,19 @@ module _ (len epoch : ℕ) (b : Block) where
 
     differs : (i : ℕ) → i ≢ s → mark_from len b.issy s i
         ≡ (if nat_lt i s then Inside else (if (i - s) % len == 0 then Next else Inside))
-    differs i ne =
-        ap (λ (t : Bool). cond {A = Mark} t (first_mark b.issy)
-        (if nat_lt i s then Inside else (if (i - s) % len == 0 then Next else Inside)))
-        (false_from_ne_true _ (λ (t : (i == s) ≡ true). ne (eqb-true i s t)))
+    differs i ne = grind (arith, false_from_ne_true, eqb-true)
 
     pub mark_before : (i : ℕ) → i < s → mark_at len b i ≡ Inside
-    mark_before i l =
-        marks i
-        ∙ differs i (λ (e : i ≡ s). omega (arith, e))
-        ∙ ap (λ (t : Bool). cond {A = Mark} t Inside (if (i - s) % len == 0 then Next else Inside)) (lt-ltb i s l)
+    mark_before i l = grind (arith, marks, differs, lt-ltb)
 
     pub mark_first : (i : ℕ) → i ≡ s → mark_at len b i ≡ first_mark b.issy
-    mark_first i e =
-        marks i ∙ ap
-        (λ (t : Bool). cond {A = Mark} t (first_mark b.issy)
-        (if nat_lt i s then Inside else (if (i - s) % len == 0 then Next else Inside))) (eq-eqb i s e)
+    mark_first i e = grind (arith, marks, eq-eqb)
 
     behind : (i : ℕ) → s < i → mark_at len b i ≡ (if (i - s) % len == 0 then Next else Inside)
-    behind i l =
-        marks i
-        ∙ differs i (λ (e : i ≡ s). omega (arith, e))
-        ∙ ap (λ (t : Bool). cond {A = Mark} t Inside (if (i - s) % len == 0 then Next else Inside))
-        (le-ltb i s (omega arith))
+    behind i l = grind (arith, marks, differs, le-ltb)
 
     pub mark_next : (i : ℕ) → s < i → (i - s) % len ≡ 0 → mark_at len b i ≡ Next
     mark_next i l e = behind i l ∙ ap (λ (t : Bool). cond t Next Inside) (eq-eqb ((i - s) % len) 0 e)
 
     pub mark_inner : (i : ℕ) → s < i → 1 ≤ (i - s) % len → mark_at len b i ≡ Inside
-    mark_inner i l e =
-        behind i l
-        ∙ ap (λ (t : Bool). cond t Next Inside)
-        (false_from_ne_true _ (λ (t : ((i - s) % len == 0) ≡ true). omega (arith, eqb-true ((i - s) % len) 0 t, e)))
+    mark_inner i l e = grind (arith, behind, false_from_ne_true, eqb-true)

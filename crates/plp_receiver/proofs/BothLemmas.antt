@@ -22,10 +22,7 @@ use Rattle.plp_receiver.proofs.WindowLemmas.{nothing_found, not_counted, put_in,
 module _ (r : SlotRule) (sound : IsSound r) (z piece : List Item) (epoch first end : ℕ) (slots : List (Option (List ℕ)))
     (shows : Shows r z first end slots) (held : List ℕ) where
   pub gain_none : Gains r z epoch piece held None → Shows r (z ++ piece) first end slots
-  gain_none g =
-      nothing_found r z (z ++ piece) first end slots (g.packets ∙ ap (λ (l : List UserPacket). user_packets r z ++ l)
-      g.gives
-      ∙ append-nil (user_packets r z)) shows
+  gain_none g = grind (arith, nothing_found, append-nil)
 
   module _ (found : Found) (delay : ℕ) (late : delay ≡ delay_of r.times) (near : over_by r.times found.epoch < 2 ^ 53)
       (g : Gains r z epoch piece held (Some found)) where
@@ -39,10 +36,7 @@ module _ (r : SlotRule) (sound : IsSound r) (z piece : List Item) (epoch first e
     gains = g.packets ∙ ap (λ (l : List UserPacket). user_packets r z ++ l) g.gives.2
 
     same : counts_by r delay found.slot found.epoch epoch ≡ counts r up
-    same =
-        ap₂ (λ (d s : ℕ). counts_by r d s found.epoch epoch) late is.slot
-        ∙ same_test r (delay_of r.times) up.slot found.epoch epoch near
-        ∙ ap₂ (λ (b e : ℕ). counts_by r (delay_of r.times) up.slot b e) is.begun (sym is.ended)
+    same = grind (arith, ap₂, is, same_test)
 
     pub gain_not : counts_by r delay found.slot found.epoch epoch ≡ false → Shows r (z ++ piece) first end slots
     gain_not e = not_counted r z (z ++ piece) up gains first end slots (sym same ∙ e) shows

@@ -37,15 +37,7 @@ pub record OfPlan (own : Receiver) (other : Option Receiver) : Type 0 where
 pub of_plan : common.InStep → JoinedSlots → (own : Receiver) (other : Option Receiver) (c : Config)
     → one.network_of own ≡ c → AllRules c → one.plp_of own < length c.plps → InStep own other → TellsDue own
     → CommonTellsDue other → OfPlan own other
-of_plan law slots own other c same rules inside step due tells = record {
-  law = law;
-  slots = slots;
-  rules = subst AllRules (sym same) rules;
-  inside = subst (λ (d : Config). one.plp_of own < length d.plps) (sym same) inside;
-  step = step;
-  due = due;
-  tells = tells;
-}
+of_plan law slots own other c same rules inside step due tells = grind arith
 
 -- what both tell, of as many slots
 pub record BothTold (own v : Receiver) (first : ℕ) (views : List RecordView) (released : ℕ) : Type 0 where

@@ -1,6 +1,6 @@
 -- What records tell of epochs, record by record.
 use Rattle.std.proofs.Common.{◌≡◌, ◌≢◌, ℕ, suc, ◌+◌, ◌-◌, ◌*◌, ◌/◌, ◌%◌, ◌<◌, ◌≤◌, ◌==◌, ◌&&◌, Bool, true, false}
-use Rattle.std.proofs.Common.{List, [], ◌∷◌, ◌++◌, length, take, drop, Option, Some, None, refl, ap, ◌∙◌, sym, subst}
+use Rattle.std.proofs.Common.{List, [], ◌∷◌, ◌++◌, length, drop, Option, Some, None, refl, ap, ◌∙◌, sym, subst}
 use Rattle.std.proofs.Common.{arith, inl, inr, cond, length-append}
 use Rattle.std.specs.Prelude.{not}
 use Rattle.std.specs.List.{AllZip, range_with_len}
@@ -94,19 +94,7 @@ pub seen_more : (c : Config) (plp first : ℕ) (views : List RecordView) (v : Re
     → seen_from c plp first (views ++ v ∷ []) from ≡ joined plp (seen_from c plp first views from)
     (part_of c (first + length views) v)
 seen_more c plp first views v from l =
-    elim (cases_lt from first) [
-      | inl lt ↦ rw (lt-leb first from lt)
-      | inr ge ↦
-          let rest : List RecordView = drop (from - first) views in
-          let longer : drop (from - first) (views ++ v ∷ []) ≡ rest ++ v ∷ [] =
-          drop-append-le (from - first) views (v ∷ []) (omega (arith, l, ge)) in
-          let at : from + length rest ≡ first + length views = omega (arith, l, ge, length-drop (from - first) views) in
-          rw (le-leb first from ge)
-          (ap (λ (x : List RecordView). agreeing plp (parts_of c from x)) longer
-          ∙ ap (agreeing plp) (parts_more c from rest v)
-          ∙ agreeing_more plp (parts_of c from rest) (part_of c (from + length rest) v)
-          ∙ ap (λ (n : ℕ). joined plp (agreeing plp (parts_of c from rest)) (part_of c n v)) at)
-    ]
+    grind (arith, cases_lt, lt-leb, drop-append-le, length-drop, le-leb, parts_more, agreeing_more)
 
 no_parts : (c : Config) (n : ℕ) → parts_of c n [] ≡ Some []
 unfolding parts_of
@@ -115,25 +103,12 @@ no_parts c n = refl
 -- before its first record nothing is seen of it
 pub none_seen : (c : Config) (plp first : ℕ) (views : List RecordView) (from : ℕ) → from ≡ first + length views
     → seen_from c plp first views from ≡ Some []
-none_seen c plp first views from e =
-    rw (le-leb first from (omega (arith, e)))
-    (ap (λ (x : List RecordView). agreeing plp (parts_of c from x)) (drop_all (from - first) views (omega (arith, e)))
-    ∙ ap (agreeing plp) (no_parts c from))
+none_seen c plp first views from e = grind (arith, le-leb, drop_all, no_parts)
 
 begun_parts : (c : Config) (plp n : ℕ) (v : RecordView) (views : List RecordView)
     → is_begun (agreeing plp (parts_of c n (v ∷ views))) ≡ true
 unfolding parts_of
-begun_parts c plp n v views = go (part_of c n v) (parts_of c (n + 1) views)
-  where
-    test : (p : Part) (ps : List Part) (b : Bool) → is_begun (cond {A = Option (List Part)} b (Some (p ∷ ps)) None)
-        ≡ true
-    test p ps true = refl
-    test p ps false = refl
-
-    go : (o : Option Part) (ps : Option (List Part)) → is_begun (agreeing plp (with_part o ps)) ≡ true
-    go None ps = refl
-    go (Some p) None = refl
-    go (Some p) (Some ps) = test p ps (agree plp (p ∷ ps))
+begun_parts c plp n v views = grind (arith, Option)
 
 -- behind it something is
 some_seen : (c : Config) (plp first : ℕ) (views : List RecordView) (from : ℕ) → from < first + length views
@@ -161,16 +136,7 @@ module _ (c : Config) (plp first : ℕ) (views : List RecordView) where
     whole = div-add-mod' n s
 
     pub seen_begun : is_begun (seen c plp first views) ≡ not (n % s == 0)
-    seen_begun =
-        elim (cases_lt 0 (n % s)) [
-          | inl lt ↦
-              some_seen c plp first views (n / s * s) (omega (arith, whole, lt))
-              ∙ sym (ap not (ne_eqb (n % s) 0 (λ (z : n % s ≡ 0). omega (arith, z, lt))))
-          | inr ge ↦
-              let z : n % s ≡ 0 = omega (arith, ge) in
-              ap is_begun (none_seen c plp first views (n / s * s) (omega (arith, whole, z)))
-              ∙ sym (ap not (eq-eqb (n % s) 0 z))
-        ]
+    seen_begun = grind (arith, cases_lt, some_seen, whole, ne_eqb, none_seen, eq-eqb)
 
     module _ (v : RecordView) where
       abbrev longer : List RecordView
@@ -184,78 +150,37 @@ module _ (c : Config) (plp first : ℕ) (views : List RecordView) where
 
       -- the epoch goes on
       pub seen_on : (n + 1) % s ≢ 0 → seen c plp first longer ≡ joined plp (seen c plp first views) (part_of c n v)
-      seen_on ne =
-          ap (λ (k : ℕ). seen_from c plp first longer (k / s * s)) next
-          ∙ ap (λ (k : ℕ). seen_from c plp first longer (k * s)) (same_epoch s n some ne)
-          ∙ seen_joined
+      seen_on ne = grind (arith, next, same_epoch, seen_joined)
 
       -- it has ended
       pub seen_anew : (n + 1) % s ≡ 0 → seen c plp first longer ≡ Some []
-      seen_anew z =
-          let e : (n + 1) / s * s ≡ n + 1 = omega (arith, div-add-mod' (n + 1) s, z) in
-          ap (λ (k : ℕ). seen_from c plp first longer (k / s * s)) next
-          ∙ none_seen c plp first longer ((n + 1) / s * s) (omega (arith, e, next))
+      seen_anew z = grind (arith, div-add-mod', next, none_seen)
 
       pub ended_parts : (n + 1) % s ≡ 0 → epoch_parts c plp first longer (n / s)
           ≡ joined plp (seen c plp first views) (part_of c n v)
       ended_parts z =
-          let more : (n / s + 1) * s ≡ n / s * s + s = omega arith in
-          let next_is = next_epoch s n some z in
-          let e : (n + 1) / s * s ≡ n + 1 = omega (arith, div-add-mod' (n + 1) s, z) in
-          let f : (n + 1) / s * s ≡ (n / s + 1) * s = ap (λ (k : ℕ). k * s) next_is in
-          let from : ℕ = n / s * s in
-          elim (cases_lt from first) [
-            | inl lt ↦ rw (lt-leb first from lt)
-            | inr ge ↦
-                let all : take s (drop (from - first) longer) ≡ drop (from - first) longer =
-                take_all s (drop (from - first) longer)
-                (omega (arith, length-drop (from - first) longer, next, e, f, more, ge)) in
-                rw all seen_joined
-          ]
+          grind (arith, next_epoch, div-add-mod', cases_lt, lt-leb, take_all, length-drop, next, seen_joined)
 
   -- an epoch that had ended before
   pub same_parts : (others : List RecordView) (m : ℕ) → m * s + s ≤ n
       → epoch_parts c plp first (views ++ others) m ≡ epoch_parts c plp first views m
-  same_parts others m l =
-      elim (cases_lt (m * s) first) [
-        | inl lt ↦ rw (lt-leb first (m * s) lt)
-        | inr ge ↦
-            let k : ℕ = m * s - first in
-            let e : drop k (views ++ others) ≡ drop k views ++ others = drop-append-le k views others
-            (omega (arith, l, ge)) in
-            let f : take s (drop k views ++ others) ≡ take s (drop k views) =
-            take-append-le s (drop k views) others (omega (arith, length-drop k views, l, ge)) in
-            rw (e, f)
-      ]
+  same_parts others m l = grind (arith, cases_lt, lt-leb, drop-append-le, take-append-le, length-drop)
 
   ended : (m k : ℕ) → m < first / s + (k / s - first / s) → first / s ≤ k / s → m * s + s ≤ k
-  ended m k l low =
-      let p : m + 1 ≤ k / s = omega (arith, l, low) in
-      let q : (m + 1) * s ≤ k / s * s = mul-le-mul_right s p in
-      let e : (m + 1) * s ≡ m * s + s = omega arith in
-      omega (arith, q, e, div-mul-le_self k s)
+  ended m k l low = grind (arith, mul-le-mul_right, div-mul-le_self)
 
   -- what was told of them
   pub told_before : (others : List RecordView) (told : List Epoch) → first / s ≤ n / s
       → AllZip (λ m e. Tells c plp (epoch_parts c plp first views m) e) (epochs_in s first (length views)) told
       → AllZip (λ m e. Tells c plp (epoch_parts c plp first (views ++ others) m) e) (epochs_in s first (length views))
       told
-  told_before others told low z =
-      zip_over (λ (m : ℕ) (e : Epoch). Tells c plp (epoch_parts c plp first views m) e)
-      (λ (m : ℕ) (e : Epoch). Tells c plp (epoch_parts c plp first (views ++ others) m) e)
-      (first / s) (n / s - first / s) told
-      (λ m e a b t. subst (λ (o : Option (List Part)). Tells c plp o e) (sym (same_parts others m (ended m n b low))) t)
-      z
+  told_before others told low z = grind (arith, zip_over, Option, same_parts, ended)
 
   pub told_after : (others : List RecordView) (told : List Epoch) → first / s ≤ n / s
       → AllZip (λ m e. Tells c plp (epoch_parts c plp first (views ++ others) m) e) (epochs_in s first (length views))
       told
       → AllZip (λ m e. Tells c plp (epoch_parts c plp first views m) e) (epochs_in s first (length views)) told
-  told_after others told low z =
-      zip_over (λ (m : ℕ) (e : Epoch). Tells c plp (epoch_parts c plp first (views ++ others) m) e)
-      (λ (m : ℕ) (e : Epoch). Tells c plp (epoch_parts c plp first views m) e)
-      (first / s) (n / s - first / s) told
-      (λ m e a b t. subst (λ (o : Option (List Part)). Tells c plp o e) (same_parts others m (ended m n b low)) t) z
+  told_after others told low z = grind (arith, zip_over, Option, same_parts, ended)
 
 -- a later frame is of no earlier epoch
 pub epoch_rises : (s a b : ℕ) → 1 ≤ s → a ≤ b → a / s ≤ b / s
@@ -264,26 +189,11 @@ epoch_rises s a b l m = le-div (a / s) b s (omega (arith, l)) (omega (arith, m, 
 -- before a record came
 pub none_told : (c : Config) (plp first : ℕ) → TellAll c plp first [] []
 unfolding TellAll
-none_told c plp first =
-    let e : (first + 0) / spread c.plps plp - first / spread c.plps plp ≡ 0 =
-    (let f : first + 0 ≡ first = omega arith in let g = ap (λ (k : ℕ). k / spread c.plps plp) f in omega (arith, g)) in
-    subst (λ (k : ℕ). AllZip (λ m e. Tells c plp (epoch_parts c plp first [] m) e)
-    (range_with_len (first / spread c.plps plp) k)
-    [])
-    (sym e) tt
+none_told c plp first = grind arith
 
 pub first_seen : (c : Config) (plp first : ℕ) → 1 ≤ spread c.plps plp → (h : HeldBlocks) → h.there ≡ false
     → Holds c plp (seen c plp first []) h
-first_seen c plp first some h lost =
-    let s : ℕ = spread c.plps plp in
-    let n : ℕ = first + 0 in
-    let w = div-add-mod' n s in
-    elim (cases_lt (n / s * s) first) [
-      | inl lt ↦ rw (lt-leb first (n / s * s) lt) lost
-      | inr ge ↦
-          let none = none_seen c plp first [] (n / s * s) (omega (arith, w, ge)) in
-          subst (λ (o : Option (List Part)). Holds c plp o h) (sym none) tt
-    ]
+first_seen c plp first some h lost = grind (arith, div-add-mod', cases_lt, lt-leb, none_seen, Option)
 
 module _ (c : Config) (plp first : ℕ) (views : List RecordView) (v : RecordView) (some : 1 ≤ spread c.plps plp)
     (told : List Epoch) (tells : TellAll c plp first views told) where
@@ -302,12 +212,7 @@ module _ (c : Config) (plp first : ℕ) (views : List RecordView) (v : RecordVie
   -- one record more, with which no epoch ends
   pub told_on : (number + 1) % rate ≢ 0 → TellAll c plp first (views ++ v ∷ []) told
   unfolding TellAll
-  told_on ne =
-      let same : (first + length (views ++ v ∷ [])) / rate ≡ number / rate = ap (λ (k : ℕ). k / rate) count
-      ∙ same_epoch rate number some ne in
-      subst (λ (k : ℕ). AllZip (λ m e. Tells c plp (epoch_parts c plp first (views ++ v ∷ []) m) e)
-      (range_with_len (first / rate) (k - first / rate)) told) (sym same)
-      (told_before c plp first views (v ∷ []) told low tells)
+  told_on ne = grind (arith, count, same_epoch, told_before, low)
 
   -- with which one ends
   pub told_more : (number + 1) % rate ≡ 0 → (e : Epoch)

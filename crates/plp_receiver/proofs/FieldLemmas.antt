@@ -1,14 +1,14 @@
 -- The pieces that are taken of a data field are its items, one piece behind another.
-use Rattle.std.proofs.Common.{◌≡◌, ℕ, ◌+◌, ◌-◌, ◌*◌, ◌/◌, ◌%◌, ◌^◌, ◌<◌, ◌≤◌, ◌==◌, Bool, true, false, List, [], ◌∷◌}
-use Rattle.std.proofs.Common.{◌++◌, length, take, drop, Option, Some, None, refl, ap, ◌∙◌, sym, subst, arith, inl, inr}
-use Rattle.std.proofs.Common.{append_assoc, length-drop, length-take, cond, eq-eqb}
+use Rattle.std.proofs.Common.{◌≡◌, ℕ, ◌+◌, ◌-◌, ◌%◌, ◌<◌, ◌≤◌, ◌==◌, true, List, [], ◌∷◌}
+use Rattle.std.proofs.Common.{◌++◌, length, take, drop, Option, Some, None, refl, ap, ◌∙◌, sym, arith, inl, inr}
+use Rattle.std.proofs.Common.{append_assoc, length-drop, length-take, eq-eqb}
 use Rattle.std.specs.Prelude.{min, if◌then◌else◌}
 use Rattle.std.proofs.lemmas.Bool.{cases_lt, cases_eq, false_from_ne_true, eqb-true}
 use Rattle.std.proofs.lemmas.Nat.{mod-mul-add, div-add-mod'}
 use Rattle.std.proofs.Math.Nat.{add-mod_right}
 use Rattle.std.proofs.Math.Seq.{take-add}
 use Rattle.plp_receiver.specs.declared.mark.Mark.{Mark}
-use Rattle.plp_receiver.specs.declared.mark.Mark.TheVariants.{Inside, Next, Timed}
+use Rattle.plp_receiver.specs.declared.mark.Mark.TheVariants.{Inside, Next}
 use Rattle.plp_receiver.specs.declared.slot_rule.SlotRule.{SlotRule}
 use Rattle.plp_receiver.specs.Sound.{IsSound}
 use Rattle.plp_receiver.specs.Strings.{Item, Block, is_start, first_mark, mark_at, items_from}
@@ -18,19 +18,13 @@ use Rattle.plp_receiver.proofs.BlockLemmas.{mark_before, mark_first, mark_next, 
 use Rattle.plp_receiver.specs.TakenBlocks.{front_of, IsBegun, IsStart}
 
 pub mod_step : (n t len : ℕ) → n % len ≡ 0 → t < len → (n + t) % len ≡ t
-mod_step n t len e l =
-    let q : n ≡ n / len * len = sym (div-add-mod' n len) ∙ ap (λ (m : ℕ). n / len * len + m) e ∙ omega arith in
-    ap (λ (m : ℕ). (m + t) % len) q ∙ mod-mul-add (n / len) len t l
+mod_step n t len e l = grind (arith, div-add-mod', mod-mul-add)
 
 pub mod_whole : (n len : ℕ) → 1 ≤ len → n % len ≡ 0 → (n + len) % len ≡ 0
 mod_whole n len l e = add-mod_right n len ∙ e
 
 pub is_first : (issy : ℕ) → is_start (first_mark issy) ≡ true
-is_first issy = go (issy / 2 ^ 22 == 2)
-  where
-    go : (b : Bool) → is_start (if b then Timed (issy % 2 ^ 22) else Next) ≡ true
-    go true = refl
-    go false = refl
+is_first issy = grind arith
 
 module _ (len epoch : ℕ) (b : Block) where
   -- a piece behind the first bytes
@@ -55,16 +49,7 @@ module _ (len epoch : ℕ) (b : Block) where
 
   module _ (start : ℕ) (first : b.first ≡ Some start) (two : 2 ≤ len) where
     mark_is : (at : ℕ) → IsBegun start at len → (if at == start then first_mark b.issy else Next) ≡ mark_at len b at
-    mark_is at h =
-        elim (cases_eq at start) [
-          | inl e ↦ ap (λ (t : Bool). cond {A = Mark} t (first_mark b.issy) Next) (eq-eqb at start e)
-              ∙ sym (mark_first len epoch b start first at e)
-          | inr ne ↦
-              let o = h.order in
-              ap (λ (t : Bool). cond {A = Mark} t (first_mark b.issy) Next)
-              (false_from_ne_true _ (λ (t : (at == start) ≡ true). ne (eqb-true at start t)))
-              ∙ sym (mark_next len epoch b start first at (omega (arith, o, ne)) h.whole)
-        ]
+    mark_is at h = grind (arith, cases_eq, eq-eqb, mark_first, false_from_ne_true, eqb-true, mark_next)
 
     -- the next user packet, or what stands there of it
     pub up_taken : (at end : ℕ) (bytes : List ℕ) → at < length b.field → IsBegun start at len
@@ -94,14 +79,7 @@ module _ (len epoch : ℕ) (b : Block) where
 
     pub begun_next : (at end : ℕ) → IsBegun start at len → end ≡ min (at + len) (length b.field) → end < length b.field
         → IsBegun start end len
-    begun_next at end h e l =
-        let o = h.order in
-        let s : end - start ≡ (at - start) + len = omega (arith, o, e) in
-        record {
-          order = omega (arith, o, e);
-          whole = ap (λ (k : ℕ). k % len) s
-              ∙ mod_whole (at - start) len (omega arith) h.whole;
-        }
+    begun_next at end h e l = grind (arith, mod_whole)
 
   -- the bytes before the first user packet
   pub front_taken : (first : Option ℕ) (start : ℕ) → b.first ≡ first → IsStart first (length b.field) start → 1 ≤ start
@@ -129,11 +107,4 @@ pub up_joined : (epoch : ℕ) (b : Block) (r a : SlotRule) → IsSound r → a �
     → bytes ≡ take (end - at) (drop at b.field)
     → mark ≡ (if at == start then first_mark b.issy else Next)
     → (z ++ front_of r.up_len epoch b at) ++ piece_items mark epoch bytes ≡ z ++ front_of r.up_len epoch b end
-up_joined epoch b r a sound q z start at end bytes mark first l h e f m =
-    let u = sound.up in
-    let n : a.up_len ≡ r.up_len = ap (λ (x : SlotRule). x.up_len) q in
-    append_assoc z (front_of r.up_len epoch b at) (piece_items mark epoch bytes)
-    ∙ ap (λ (x : Mark). z ++ (front_of r.up_len epoch b at ++ piece_items x epoch bytes)) m
-    ∙ ap (λ (x : List Item). z ++ x)
-    (up_taken r.up_len epoch b start first (omega (arith, u)) at end bytes l (subst (IsBegun start at) n h)
-    (e ∙ ap (λ (k : ℕ). min (at + k) (length b.field)) n) f)
+up_joined epoch b r a sound q z start at end bytes mark first l h e f m = grind (arith, append_assoc, up_taken)

@@ -30,20 +30,7 @@ module _ (r : SlotRule) (sound : IsSound r) (one : r.spread ≡ 1) where
       ≡ map (slot_packet r (string_of r.up_len first epochs))
       (range_with_len (over_after r (first - 1)) (due_after r (first + count) - over_after r (first - 1)))
   unfolding readback
-  packets_are first count epochs =
-      ap (λ (m : ℕ). map (slot_packet r (string_of r.up_len m epochs))
-      (range_with_len (over_after r (first - r.spread)) (due_after r (first + count) - over_after r
-      (first - r.spread))))
-      (epoch_is first)
-      ∙ ap (λ (s : ℕ). map (slot_packet r (string_of r.up_len first epochs))
-      (range_with_len (over_after r (first - s)) (due_after r (first + count) - over_after r (first - s)))) one
+  packets_are first count epochs = grind (arith, epoch_is)
 
   pub one_frame : IsByFrames r
-  one_frame = record {
-    epoch = epoch_is;
-    last = last_is;
-    over = over_is;
-    delay = delay_is;
-    ended = λ first count epochs. omega (arith, epoch_is first, epoch_is (first + count));
-    packets = packets_are;
-  }
+  one_frame = grind (arith, epoch_is, last_is, over_is, delay_is, packets_are)

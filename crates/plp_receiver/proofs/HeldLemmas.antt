@@ -3,7 +3,6 @@ use Rattle.std.proofs.Common.{◌≡◌, ℕ, ◌+◌, ◌-◌, ◌*◌, ◌%◌
 use Rattle.std.proofs.Common.{length, take, drop, get_or, Option, Some, None, refl, ap, ◌∙◌, sym, subst, arith}
 use Rattle.std.proofs.Common.{append_assoc}
 use Rattle.std.specs.Prelude.{not, slice_index, sum}
-use Rattle.std.specs.Option.{option_map_or}
 use Rattle.std.specs.List.{AllZip, range_with_len}
 use Rattle.std.proofs.lemmas.Bool.{both_ways, and_parts, eqb-true, eq-eqb}
 use Rattle.std.proofs.lemmas.List.{length-take-le, length-drop, drop-drop, drop-take, take-take, drop-append-le}
@@ -33,10 +32,7 @@ use Rattle.circular_buffer.proofs.Places.{slice_get-drop}
 
 -- ---- places
 pub place_in : (k n len : ℕ) → k < n → k * len + len ≤ n * len
-place_in k n len l =
-    let p : (k + 1) * len ≤ n * len = mul-le-mul_right {m = k + 1} {n = n} len (omega (arith, l)) in
-    let e : (k + 1) * len ≡ k * len + len = omega arith in
-    omega (arith, p, e)
+place_in k n len l = grind (arith, mul-le-mul_right)
 
 pub place_next : (k len : ℕ) → (k + 1) * len ≡ k * len + len
 place_next k len = omega arith
@@ -66,12 +62,7 @@ module _ (k len : ℕ) (out block new : List ℕ) (long : length block ≡ len) 
   new_is = e ∙ append_assoc (take (k * len) out) block rest
 
   pub put_here : block_at len new k ≡ block
-  put_here =
-      ap (λ (l : List ℕ). take len (drop (k * len) l)) new_is
-      ∙ ap (λ (n : ℕ). take len (drop n (take (k * len) out ++ (block ++ rest)))) (sym front)
-      ∙ ap (take len) (drop-append_seam (take (k * len) out) (block ++ rest))
-      ∙ ap (λ (n : ℕ). take n (block ++ rest)) (sym long)
-      ∙ take-append_seam block rest
+  put_here = grind (arith, new_is, front, drop-append_seam, take-append_seam)
 
   pub put_before : (j : ℕ) → j < k → block_at len new j ≡ block_at len out j
   put_before j l =
@@ -97,9 +88,7 @@ module _ (k len : ℕ) (out block new : List ℕ) (long : length block ≡ len) 
 -- ---- the parts
 cells_more : (c : Config) (plp : ℕ) (parts : List Part) (q : Part) (k : ℕ) → cells_stand c plp (parts ++ q ∷ []) k
     ≡ (cells_stand c plp parts k && all_stand c plp q k)
-cells_more c plp parts q k =
-    list_all-append (λ (p : Part). all_stand c plp p k) parts (q ∷ [])
-    ∙ ap (λ (b : Bool). cells_stand c plp parts k && b) (and-true (all_stand c plp q k))
+cells_more c plp parts q k = grind (arith, list_all-append, and-true)
 
 -- what is known when the blocks of the first part were copied
 pub record Begun (c : Config) (plp : ℕ) (q : Part) (h : HeldBlocks) : Type 0 where
@@ -115,17 +104,8 @@ pub begun_at : (c : Config) (plp n : ℕ) (shape : FrameShape) (blocks rest : Li
     → ((k : ℕ) → k < h.count → block_at h.len h.bytes.items k ≡ bytes_at rest k)
     → ((k : ℕ) → k < h.count → get_or h.stands.items k false ≡ true)
     → Begun c plp (part_with n blocks shape cells) h
-begun_at c plp n shape blocks rest cells h there count behind bytes stand = record {
-  there = there;
-  count = count;
-  bytes = λ k l.
-      let front : ℕ = sum (take plp (coming c n shape)) in
-      bytes k l
-      ∙ ap (λ (l : List frame.Block). bytes_at l k) behind
-      ∙ ap (λ (o : Option frame.Block). option_map_or (λ b. b.bytes) o [])
-      (slice_get-drop front blocks k (front + k) refl);
-  stand = stand;
-}
+begun_at c plp n shape blocks rest cells h there count behind bytes stand =
+    grind (arith, front, Option, slice_get-drop)
 
 -- and when the cells of a part were seen
 pub record Seen (c : Config) (plp : ℕ) (q : Part) (old new : HeldBlocks) : Type 0 where

@@ -136,11 +136,7 @@ module _ (r : SlotRule) (sound : IsSound r) (z : List Item) (epoch v : ℕ) (vs 
   first_is : (m : Mark) (before : Option ℕ) (kept : Base) → kept.epoch ≡ epoch
       → ((dnp : ℕ) → slot_with kept dnp ≡ capped (slot_by r m epoch dnp before))
       → IsBase r (piece_items m epoch (v ∷ vs)) before kept
-  first_is m before kept e h = go vs
-    where
-      go : (us : List ℕ) → IsBase r (piece_items m epoch (v ∷ us)) before kept
-      go [] = (e, h)
-      go (u ∷ us) = (e, h)
+  first_is m before kept e h = grind arith
 
   begins : (m : Mark) (s : State) (len : ℕ) (held : List ℕ) (kept : Base) → is_start m ≡ true → next_len len m ≡ 0
       → piece_turn r s m (piece_items m epoch (v ∷ vs)) ≡ piece_grown r (piece_items m epoch (v ∷ vs))
@@ -254,10 +250,7 @@ module _ (r : SlotRule) (sound : IsSound r) (z : List Item) (epoch v : ℕ) (vs 
     j = joined r sound z epoch v vs mark st.state len held kept st.follows st.holds is near i
 
     passed : r.up_len < total → piece_turn r st.state mark piece ≡ turn_of (state_of [] None) []
-    passed l =
-        j.joined.turn
-        ∙ ge_cond r epoch (length j.w) r.up_len _ _ (omega (arith, j.joined.size))
-        ∙ lt_cond r epoch r.up_len (length j.w) _ _ (omega (arith, j.joined.size))
+    passed l = grind (arith, j, ge_cond, lt_cond)
 
     -- too many bytes
     pub over_stands : r.up_len < total → (new_len : ℕ) (new_held : List ℕ) (new_kept : Base) → new_len ≡ 0
@@ -288,18 +281,11 @@ module _ (r : SlotRule) (sound : IsSound r) (z : List Item) (epoch v : ℕ) (vs 
     slot_now = slot_of r j.w j.before
 
     ends : total ≡ r.up_len → piece_turn r st.state mark piece ≡ ended r j.w j.before
-    ends l =
-        j.joined.turn
-        ∙ ge_cond r epoch (length j.w) r.up_len _ _ (omega (arith, j.joined.size))
-        ∙ ge_cond r epoch r.up_len (length j.w) _ _ (omega (arith, j.joined.size))
+    ends l = grind (arith, j, ge_cond)
 
     pub slot_is : slot_now ≡ slot_by r (first_item j.w).mark (first_item j.w).epoch (dnp_of r j.w) j.before
     unfolding slot_of
-    slot_is =
-        ap₂ (λ (a b : Bool).
-        cond {A = Option ℕ} (a && b) (slot_by r (first_item j.w).mark (first_item j.w).epoch (dnp_of r j.w) j.before)
-        None)
-        j.joined.one j.joined.last.can_end
+    slot_is = grind (arith, ap₂, Option, j)
 
     base_is : (w : List Item) (before : Option ℕ) → 1 ≤ length w → IsBase r w before next
         → (next.epoch ≡ (first_item w).epoch)
@@ -314,14 +300,7 @@ module _ (r : SlotRule) (sound : IsSound r) (z : List Item) (epoch v : ℕ) (vs 
       whole = ap (λ (n : ℕ). take n new_held) (sym l) ∙ e ∙ sym j.joined.values_are
 
       dnp_is : kept_dnp r new_held ≡ dnp_of r j.w
-      dnp_is =
-          let u = sound.up in
-          let n : length j.w ≡ r.up_len = j.joined.size ∙ l in
-          ap (λ (d : ℕ). if r.deletes then d else 0)
-          (sym (get_or-take r.up_len new_held (r.up_len - 1) 0 (omega (arith, u)))
-          ∙ ap (λ (bytes : List ℕ). get_or bytes (r.up_len - 1) 0) whole
-          ∙ ap (λ (k : ℕ). get_or (item_values j.w) (k - 1) 0) (sym n)
-          ∙ last_value no_item j.w (omega (arith, n, u)))
+      dnp_is = grind (arith, j, get_or-take, whole, last_value)
 
       parts : (next.epoch ≡ (first_item j.w).epoch)
           × ((dnp : ℕ) → slot_with next dnp ≡ capped (slot_by r (first_item j.w).mark (first_item j.w).epoch

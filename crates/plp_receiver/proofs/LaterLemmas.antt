@@ -86,12 +86,7 @@ module _ (r : SlotRule) (sound : IsSound r) where
         }
 
     pub complete_of : AreBytes r.up_len z x → is_complete (window r z x) ≡ true
-    complete_of h =
-        let all = all_of rest (λ k m. ap (λ (i : Item). is_inside i.mark) (rest_at k (omega (arith, long, m)))
-        ∙ h.inner (x + 1 + k) (omega arith) (omega (arith, long, m))) in
-        ap₂ (λ (a b : Bool). a && b) (ap is_one split ∙ one_from (at z x) rest start all)
-        (ap (λ (i : Item). i.can_end) last
-        ∙ h.ends)
+    complete_of h = grind (arith, all_of, rest_at, long, ap₂, split, one_from, last)
 
   -- the blocks of a run from a place on are the items of the string from there on
   abbrev Agrees : List Item → ℕ → List Placed → Type 0
@@ -108,13 +103,7 @@ module _ (r : SlotRule) (sound : IsSound r) where
   in_block : (z : List Item) (place : ℕ) (p : Placed) (run : List Placed) → Agrees z place (p ∷ run) → (i : ℕ)
       → i < length p.block.field
       → at z (place + i) ≡ item_at r.up_len p.epoch p.block i (get_or p.block.field i 0)
-  in_block z place p run a i l =
-      let e : 0 + i ≡ i = omega arith in
-      a i (omega (arith, run_len p run))
-      ∙ get_or_append_left (block_items r.up_len p.epoch p.block) (run_items r.up_len run) no_item i
-      (omega (arith, field_len p))
-      ∙ items_at r.up_len p.epoch p.block p.block.field 0 i l
-      ∙ ap (λ (j : ℕ). item_at r.up_len p.epoch p.block j (get_or p.block.field i 0)) e
+  in_block z place p run a i l = grind (arith, run_len, get_or_append_left, field_len, items_at)
 
   behind : (z : List Item) (place : ℕ) (p : Placed) (run : List Placed) → Agrees z place (p ∷ run)
       → Agrees z (place + length p.block.field) run

@@ -98,30 +98,14 @@ len_suc n l = omega arith
 -- a user packet begins in an epoch of the string
 pub begins_up_to : (r : SlotRule) (z : List Item) (n end epoch : ℕ) (up : UserPacket) → 1 ≤ r.up_len → UpTo epoch z
     → From r z n end up → (first_item up.items).epoch ≤ epoch
-begins_up_to r z n end epoch up l h f =
-    let e : first_item up.items ≡ get_or z f.place no_item =
-    ap first_item f.items_are ∙ ap (λ (k : ℕ). first_item (take k (drop f.place z))) (len_suc r.up_len l)
-    ∙ first_is z f.place (r.up_len - 1) in
-    omega (arith, ap (λ (x : Item). x.epoch) e, up_to epoch z f.place h)
+begins_up_to r z n end epoch up l h f = grind (arith, len_suc, first_is, up_to)
 
 -- one that ends behind the first items ends in an epoch of the others
 pub ends_since : (r : SlotRule) (z y : List Item) (n end epoch : ℕ) (up : UserPacket) → 1 ≤ r.up_len
     → length z + 1 ≤ n + r.up_len
     → end + r.up_len ≤ length z + length y + 1 → Since epoch y
     → From r (z ++ y) n end up → epoch ≤ (last_item up.items).epoch
-ends_since r z y n end epoch up l a b h f =
-    let p = f.least in
-    let q = f.below in
-    let i : f.place + (r.up_len - 1) < length (z ++ y) = omega (arith, length-append z y, p, q) in
-    let e : last_item up.items ≡ get_or (z ++ y) (f.place + (r.up_len - 1)) no_item =
-    ap last_item f.items_are ∙ ap (λ (k : ℕ). last_item (take k (drop f.place (z ++ y)))) (len_suc r.up_len l)
-    ∙ last_is no_item (z ++ y) f.place (r.up_len - 1) i in
-    omega (
-      arith,
-      ap (λ (x : Item). x.epoch) e,
-      since epoch z y (f.place + (r.up_len - 1)) (omega (arith, p))
-          (omega (arith, i, length-append z y)) h,
-    )
+ends_since r z y n end epoch up l a b h f = grind (arith, length-append, len_suc, last_is, since)
 
 packets_zero : (r : SlotRule) (w : List Item) → packets_at r w 0 ≡ []
 unfolding packets_at

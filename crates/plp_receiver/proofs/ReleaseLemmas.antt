@@ -7,7 +7,6 @@ use Rattle.std.proofs.lemmas.Option.{slice_get_within, get_or_from_slice_get}
 use Rattle.plp_receiver.specs.StandsFor.{TellsDue}
 use Rattle.plp_config.specs.declared.config.Config.{Config}
 use Rattle.site_frame.specs.declared.reading.RecordView.{RecordView}
-use Rattle.ts_packet.specs.Null.{null_packet}
 use Rattle.plp_receiver.specs.Epochs.{Readback}
 use Rattle.plp_receiver.specs.StandsFor as one
 use Rattle.plp_receiver.specs.declared.receiver.Receiver.{Receiver}
@@ -46,10 +45,7 @@ stands_on own own_new (Some v) (Some w) packet out p some g h first views releas
 -- the packets at a slot, joined
 joined_here : JoinedSlots → (shared own : List (List ℕ)) (k : ℕ) (p q : List ℕ) → slice_get shared k ≡ Some p
     → slice_get own k ≡ Some q → slice_get (joined shared own) k ≡ Some (joined_packet p q)
-joined_here slots shared own k p q a b =
-    slots.slot shared own k (slice_get_within own k q b)
-    ∙ ap₂ (λ (x y : List ℕ). Some (joined_packet x y)) (get_or_from_slice_get shared k p null_packet a)
-    (get_or_from_slice_get own k q null_packet b)
+joined_here slots shared own k p q a b = grind (arith, slice_get_within, ap₂, get_or_from_slice_get)
 
 -- And what was given out is the packet of the slot.
 pub answer_is : (own own_new : Receiver) (other other_new : Option Receiver) (packet out : List ℕ) → OfPlan own other

@@ -75,15 +75,7 @@ pub seen_more : (c : Config) (shape : FrameShape) (frame_idx : ℕ) (cells : Lis
     → expected ≡ get (cell_map c shape frame_idx) (address + n) → slice_get cells (address + n) ≡ Some found
     → now ≡ (was && seen_from c shape frame_idx cells ordinal address (n + 1))
 seen_more c shape frame_idx cells ordinal address n was before now expected found b e x f =
-    let seen : Bool = seen_from c shape frame_idx cells ordinal address n in
-    e
-    ∙ ap (λ (t : Bool). t && is_seen ordinal expected found) b
-    ∙ and_assoc was seen (is_seen ordinal expected found)
-    ∙ ap (λ (t : Bool). was && t)
-    (ap (λ (o : Option Cell). seen && is_right ordinal o (Some found)) x
-    ∙ ap (λ (o : Option (Option Cell)). seen && is_right ordinal (get (cell_map c shape frame_idx) (address + n)) o)
-    (sym f)
-    ∙ sym (from_more (right_at c shape frame_idx cells ordinal) address n))
+    grind (arith, and_assoc, Option, from_more)
 
 -- ---- one piece more
 pub pieces_seen : (c : Config) (shape : FrameShape) (frame_idx : ℕ) (cells : List (Option Cell)) (ordinal address n : ℕ)
@@ -91,17 +83,7 @@ pub pieces_seen : (c : Config) (shape : FrameShape) (frame_idx : ℕ) (cells : L
     → before ≡ (was && seen_from c shape frame_idx cells ordinal 0 address)
     → now ≡ (before && seen_from c shape frame_idx cells ordinal address n)
     → now ≡ (was && seen_from c shape frame_idx cells ordinal 0 (address + n))
-pieces_seen c shape frame_idx cells ordinal address n was before now b e =
-    let zero_on : 0 + address ≡ address = omega arith in
-    e
-    ∙ ap (λ (t : Bool). t && seen_from c shape frame_idx cells ordinal address n) b
-    ∙ and_assoc was (seen_from c shape frame_idx cells ordinal 0 address) (seen_from c shape frame_idx
-    cells ordinal address n)
-    ∙ ap (λ (t : Bool). was && t)
-    (ap (λ (a : ℕ). seen_from c shape frame_idx cells ordinal 0 address && seen_from c shape frame_idx
-    cells ordinal a n)
-    (sym zero_on)
-    ∙ sym (from_split (right_at c shape frame_idx cells ordinal) 0 address n))
+pieces_seen c shape frame_idx cells ordinal address n was before now b e = grind (arith, and_assoc, from_split)
 
 -- what stands there is right
 right_own : (ordinal : ℕ) (o : Option Cell) → is_right ordinal o (Some o) ≡ true
@@ -115,18 +97,13 @@ right_own ordinal (Some x) =
 pub all_own : (c : Config) (shape : FrameShape) (frame_idx : ℕ) (cells : List (Option Cell)) (ordinal address n : ℕ)
     → ((i : ℕ) → i < n → slice_get cells (address + i) ≡ Some (get (cell_map c shape frame_idx) (address + i)))
     → seen_from c shape frame_idx cells ordinal address n ≡ true
-all_own c shape frame_idx cells ordinal address n h = true_range (right_at c shape frame_idx cells ordinal) address n
-    (λ i l. ap (λ (f : Option (Option Cell)). is_right ordinal (get (cell_map c shape frame_idx) (address + i)) f)
-    (h i l)
-    ∙ right_own ordinal (get (cell_map c shape frame_idx) (address + i)))
+all_own c shape frame_idx cells ordinal address n h = grind (arith, true_range, Option, right_own)
 
 -- ---- all of them
 right_one : (ordinal cell : ℕ) (found : Option (Option Cell))
     → is_right ordinal (Some (record { ordinal = ordinal; cell = cell })) found ≡ true
     → is_cell ordinal cell found ≡ true
-right_one ordinal cell found e =
-    let yes : (ordinal == ordinal) ≡ true = eq-eqb ordinal ordinal refl in
-    sym (ap (λ (t : Bool). not t || is_cell ordinal cell found) yes) ∙ e
+right_one ordinal cell found e = grind (arith, eq-eqb)
 
 module _ (has : MapHasEachCell) (only : MapHasOnlyCells) (c : Config) (shape : FrameShape) (cells : List (Option Cell))
     (number : ℕ) (blocks : List Block) (plp block : ℕ) (passes : Passes c shape)
@@ -191,6 +168,4 @@ module _ (has : MapHasEachCell) (only : MapHasOnlyCells) (c : Config) (shape : F
 
   pub seen_stand : all_seen c shape frame_idx cells own ≡ all_stand c plp part block
   unfolding all_stand
-  seen_stand = same_test (all_seen c shape frame_idx cells own) (all_stand c plp part block) stands_by
-      (λ e. true_each (right_at c shape frame_idx cells own) c.cells
-      (λ at l. right_here e at (get (cell_map c shape frame_idx) at) refl))
+  seen_stand = grind (arith, same_test, stands_by, true_each, right_here)

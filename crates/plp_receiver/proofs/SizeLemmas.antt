@@ -30,17 +30,13 @@ pub came : (b : Block) (rest : List Block) (size : BlockSize) (n k : ℕ) (more 
     → has_size b size ≡ true
     → pointwise has_size (b ∷ rest) (replicate (n - k) size ++ more)
     ≡ pointwise has_size rest (replicate (n - (k + 1)) size ++ more)
-came b rest size n k more l e =
-    ap (λ (m : ℕ). pointwise has_size (b ∷ rest) (replicate m size ++ more)) (left_is n k l)
-    ∙ ap (λ (t : Bool). t && pointwise has_size rest (replicate (n - (k + 1)) size ++ more)) e
+came b rest size n k more l e = grind (arith, replicate, left_is)
 
 -- a block came that has another
 pub came_other : (b : Block) (rest : List Block) (size : BlockSize) (n k : ℕ) (more : List BlockSize) → k < n
     → has_size b size ≡ false
     → pointwise has_size (b ∷ rest) (replicate (n - k) size ++ more) ≡ false
-came_other b rest size n k more l e =
-    ap (λ (m : ℕ). pointwise has_size (b ∷ rest) (replicate m size ++ more)) (left_is n k l)
-    ∙ and_left (has_size b size) (pointwise has_size rest (replicate (n - (k + 1)) size ++ more)) e
+came_other b rest size n k more l e = grind (arith, replicate, left_is, and_left)
 
 -- the sizes from a PLP on begin with its own
 sizes_first : (c : Config) (counts : List ℕ) (n plp : ℕ) → plp < n → sizes_from c counts plp (n - plp) ≡ plp_sizes
@@ -55,14 +51,7 @@ pub comes : (c : Config) (counts : List ℕ) (old new : List Block) (n plp count
     ≡ (result && pointwise has_size new more))
     → pointwise has_size old (sizes_from c counts plp (n - plp))
     ≡ (result && pointwise has_size new (sizes_from c counts (plp + 1) (n - (plp + 1))))
-comes c counts old new n plp count id len result l e i s f =
-    let more : List BlockSize = sizes_from c counts (plp + 1) (n - (plp + 1)) in
-    ap (pointwise has_size old) (sizes_first c counts n plp l)
-    ∙ ap (λ (m : ℕ). pointwise has_size old (replicate m (size_of (plp_at c.plps plp).id (block_bytes c plp)) ++ more))
-    (sym e)
-    ∙ ap (λ (m : ℕ). pointwise has_size old (replicate count (size_of m (block_bytes c plp)) ++ more)) (sym i)
-    ∙ ap (λ (m : ℕ). pointwise has_size old (replicate count (size_of id m) ++ more)) (sym s)
-    ∙ f more
+comes c counts old new n plp count id len result l e i s f = grind (arith, sizes_first, replicate)
 
 -- ---- all of them
 -- there is a block at a place, and it has so many bytes
@@ -178,19 +167,13 @@ have_length c counts blocks plp e l = (enough (slice_index counts plp) (λ k i. 
 -- those that come of a PLP
 pub coming_is : (c : Config) (n : ℕ) (shape : FrameShape) (plp : ℕ) → plp < length c.plps
     → slice_index (coming c n shape) plp ≡ cond {A = ℕ} (is_first c plp n) (slice_index shape.counts plp) 0
-coming_is c n shape plp l =
-    get_or-map-range_with_len (λ p. cond {A = ℕ} (is_first c p n) (slice_index shape.counts p) 0) 0 (length c.plps)
-    plp plp 0 l
-    (omega arith)
+coming_is c n shape plp l = grind (arith, get_or-map-range_with_len)
 
 -- by the test of whether an epoch begins
 pub begun_is : (c : Config) (n : ℕ) (shape : FrameShape) (plp count : ℕ) → plp < length c.plps
     → (n % spread c.plps plp == 0) ≡ true → count ≡ slice_index shape.counts plp
     → count ≡ slice_index (coming c n shape) plp
-begun_is c n shape plp count l e same =
-    same
-    ∙ sym (ap (λ (b : Bool). cond {A = ℕ} b (slice_index shape.counts plp) 0) e)
-    ∙ sym (coming_is c n shape plp l)
+begun_is c n shape plp count l e same = grind (arith, coming_is)
 
 pub none_begun : (c : Config) (n : ℕ) (shape : FrameShape) (plp : ℕ) → plp < length c.plps
     → (n % spread c.plps plp == 0) ≡ false → 0 ≡ slice_index (coming c n shape) plp

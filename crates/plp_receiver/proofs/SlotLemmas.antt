@@ -1,25 +1,21 @@
 -- Slots and user packets of a string that grows by one item.
-use Rattle.std.proofs.Common.{◌≡◌, ℕ, zero, suc, ◌+◌, ◌-◌, ◌<◌, ◌≤◌, ◌&&◌, Bool, false, List, [], ◌∷◌, ◌++◌, length}
-use Rattle.std.proofs.Common.{take, drop, Option, None, refl, ap, ap₂, ◌∙◌, sym, arith, inl, inr, append-nil}
-use Rattle.std.proofs.Common.{length-append, length-drop, cond}
+use Rattle.std.proofs.Common.{◌≡◌, ℕ, zero, suc, ◌+◌, ◌-◌, ◌<◌, ◌≤◌, false, List, [], ◌∷◌, ◌++◌, length}
+use Rattle.std.proofs.Common.{drop, Option, None, refl, ap, ap₂, ◌∙◌, sym, arith, inl, inr, append-nil}
+use Rattle.std.proofs.Common.{length-append, length-drop}
 use Rattle.std.proofs.lemmas.Bool.{cases_lt}
 use Rattle.std.proofs.lemmas.List.{take-append-le, drop-append-le, take_all, drop_all}
 use Rattle.plp_receiver.specs.declared.slot_rule.SlotRule.{SlotRule}
 use Rattle.plp_receiver.specs.Strings.{Item}
-use Rattle.plp_receiver.specs.Packets.{UserPacket, is_one, last_item, slot_by, slot_of, dnp_of, first_item, window}
+use Rattle.plp_receiver.specs.Packets.{UserPacket, is_one, slot_of, window}
 use Rattle.plp_receiver.specs.Packets.{latest, slot_before, slots_at, with_slot, packets_at, user_packets}
 
 pub none_of : (r : SlotRule) (w : List Item) (before : Option ℕ) → is_one w ≡ false → slot_of r w before ≡ None
 unfolding slot_of
-none_of r w before h =
-    ap (λ (b : Bool). cond {A = Option ℕ} (b && (last_item w).can_end)
-    (slot_by r (first_item w).mark (first_item w).epoch (dnp_of r w) before) None) h
+none_of r w before h = grind (arith, Option)
 
 module _ (r : SlotRule) where
   same_window : (z ys : List Item) (x : ℕ) → x + r.up_len ≤ length z → window r (z ++ ys) x ≡ window r z x
-  same_window z ys x h =
-      ap (take r.up_len) (drop-append-le x z ys (omega arith))
-      ∙ take-append-le r.up_len (drop x z) ys (omega (arith, length-drop x z))
+  same_window z ys x h = grind (arith, drop-append-le, take-append-le, length-drop)
 
   same_slots : (z ys : List Item) (n : ℕ) → n + r.up_len ≤ length z + 1 → slots_at r (z ++ ys) n ≡ slots_at r z n
   unfolding slots_at

@@ -1,6 +1,6 @@
 -- What a `PacketSlots` stands for, call by call, over its parts.
-use Rattle.std.proofs.Common.{◌≡◌, ℕ, suc, ◌+◌, ◌-◌, ◌/◌, ◌%◌, ◌==◌, ◌<◌, ◌≤◌, List, [], ◌∷◌, ◌++◌, length, map, drop}
-use Rattle.std.proofs.Common.{get_or, replicate, Bool, true, false, cond, Option, Some, None, refl, ap, ◌∙◌, sym}
+use Rattle.std.proofs.Common.{◌≡◌, ℕ, ◌+◌, ◌-◌, ◌%◌, ◌==◌, ◌<◌, ◌≤◌, List, [], ◌∷◌, ◌++◌, length, map, drop}
+use Rattle.std.proofs.Common.{get_or, replicate, Bool, true, false, Option, Some, None, refl, ap, ◌∙◌, sym}
 use Rattle.std.proofs.Common.{subst, arith, append-nil, append_assoc, length-append, eq-eqb}
 use Rattle.std.specs.Prelude.{unwrap_or, slice_get, nat_lt, if◌then◌else◌}
 use Rattle.std.proofs.lemmas.Bool.{ltb-true, eqb-true, both_ways}
@@ -19,7 +19,7 @@ use Rattle.plp_receiver.specs.declared.window.SlotWindow.{SlotWindow}
 use Rattle.plp_receiver.specs.SlotsHold.{Shows}
 use Rattle.plp_receiver.specs.Window.{Status, status_of, Reaches, begun, entered, left, given, front_packet}
 use Rattle.plp_receiver.specs.Readback.{slot_option, slot_packet}
-use Rattle.plp_receiver.specs.SlotEpochs.{Epoch, HaveEnded, block_or_gap, epoch_items, string_of, first_slot, reached}
+use Rattle.plp_receiver.specs.SlotEpochs.{Epoch, HaveEnded, block_or_gap, epoch_items, string_of, first_slot}
 use Rattle.plp_receiver.specs.SlotEpochs.{readback, held_slots}
 use Rattle.plp_receiver.specs.Times.{epoch_of, over_after, due_after}
 use Rattle.plp_receiver.proofs.TimeLemmas.{next_epoch, same_epoch, all_rise, ended_over, none_over, none_given}
@@ -31,28 +31,11 @@ use Rattle.plp_receiver.proofs.BothLemmas.{moved}
 
 shows_none : (r : SlotRule) (z : List Item) (first end : ℕ) (slots : List (Option (List ℕ))) → end ≡ first → slots ≡ []
     → Shows r z first end slots
-shows_none r z first end slots e f = record {
-  order = omega (arith, e);
-  slots_are =
-      f ∙ sym (ap (λ (n : ℕ). map (slot_option r z) (range_with_len first n))
-      (let z : end - first ≡ 0 = omega (arith, e) in z));
-}
+shows_none r z first end slots e f = grind arith
 
 pub fresh_from : (a : Assembler) (w : SlotWindow) (r : SlotRule) → AssemblerStandsFor a r []
     → status_of w ≡ record { rule = r; slots = []; first = 0; end = 0; due_end = 0 } → Fresh a w r
-fresh_from a w r h e =
-    let items = ap (λ (s : Status). s.slots) e in
-    let first = ap (λ (s : Status). s.first) e in
-    let end = ap (λ (s : Status). s.end) e in
-    record {
-      both = record {
-        assembles = h;
-        rule = ap (λ (s : Status). s.rule) e;
-        shows = shows_none r [] w.first w.end w.slots.items
-            (end ∙ sym first) items;
-      };
-      empty = items;
-    }
+fresh_from a w r h e = grind (arith, shows_none)
 
 no_epochs : (len epoch : ℕ) → string_of len epoch [] ≡ []
 unfolding string_of
@@ -65,33 +48,11 @@ one_epoch len epoch e = append-nil (epoch_items len epoch e)
 -- a window of some status, which shows what the assembler found
 both_by : (r : SlotRule) (z : List Item) (a : Assembler) (new : SlotWindow) (s : Status) → status_of new ≡ s
     → AssemblerStandsFor a r z → s.rule ≡ r → Shows r z s.first s.end s.slots → Both r z a new
-both_by r z a new s e assembles rule shows = record {
-  assembles = assembles;
-  rule = ap (λ (t : Status). t.rule) e ∙ rule;
-  shows = subst (λ (t : Status). Shows r z t.first t.end t.slots) (sym e) shows;
-}
+both_by r z a new s e assembles rule shows = grind arith
 
 pub begins : (a : Assembler) (old new : SlotWindow) (r : SlotRule) (first : ℕ) → Fresh a old r
     → status_of new ≡ begun (status_of old) first → Stands a new first r first 0 [] 0
-begins a old new r first f e =
-    let rule : new.rule ≡ old.rule = ap (λ (s : Status). s.rule) e in
-    let at = ap (λ (s : Status). s.first) e in
-    let end = ap (λ (s : Status). s.end) e in
-    let due = ap (λ (s : Status). s.due_end) e in
-    record {
-      both = subst (λ (z : List Item). Both r z a new) (sym (no_epochs r.up_len (epoch_of r first)))
-          (record {
-            assembles = f.both.assembles;
-            rule = rule ∙ f.both.rule;
-            shows = shows_none r [] new.first new.end new.slots.items (end ∙ sym at) (ap (λ (s : Status). s.slots) e
-                ∙ f.empty);
-          });
-      number = omega arith;
-      ended = omega arith;
-      begin = at ∙ ap (λ (q : SlotRule). first_slot q first) f.both.rule ∙ omega arith;
-      end = end ∙ ap (λ (q : SlotRule). first_slot q first) f.both.rule;
-      due = due ∙ ap (λ (q : SlotRule). due_after q first) f.both.rule;
-    }
+begins a old new r first f e = grind (arith, no_epochs, shows_none)
 
 -- The slots of the next frame come into range.
 pub enters : (r : SlotRule) → IsSound r → CountRises → (first frame count : ℕ) (epochs : List Epoch) (released : ℕ)
@@ -129,17 +90,13 @@ enters r sound rises first frame count epochs released a old new h low e order =
 pub low_at : (q r : SlotRule) (in_frame : Bool) (frame end : ℕ) → q ≡ r → in_frame ≡ false
     → Reaches q in_frame frame end
     → over_after r (frame - r.spread) ≤ end
-low_at q r in_frame frame end e f h =
-    subst (λ (s : SlotRule). over_after s (frame - s.spread) ≤ end) e
-    (subst (λ (b : Bool). Reaches q b frame end) f h).least
+low_at q r in_frame frame end e f h = grind arith
 
 -- the slots in range before all frames
 pub open_range : (w : SlotWindow) (r : SlotRule)
     → status_of w ≡ record { rule = r; slots = []; first = 0; end = 0; due_end = 0 }
     → Reaches w.rule false 0 w.end
-open_range w r e =
-    let end = ap (λ (s : Status). s.end) e in
-    record { least = omega (arith, none_over w.rule); most = omega (arith, end) }
+open_range w r e = grind (arith, none_over)
 
 pub open_due : ReleasedFirst → (w : SlotWindow) (r : SlotRule)
     → status_of w ≡ record { rule = r; slots = []; first = 0; end = 0; due_end = 0 } → w.due_end ≡ due_after w.rule 0
@@ -148,31 +105,13 @@ open_due law w r e = ap (λ (s : Status). s.due_end) e ∙ sym (none_given law w
 -- the slots in range before a frame came
 pub first_range : CountRises → (old new : SlotWindow) (frame : ℕ) → status_of new ≡ begun (status_of old) frame
     → Reaches new.rule false frame new.end
-first_range rises old new frame e =
-    let r = new.rule in
-    let same : new.rule ≡ old.rule = ap (λ (s : Status). s.rule) e in
-    let last : new.end ≡ first_slot old.rule frame = ap (λ (s : Status). s.end) e in
-    let now : first_slot r frame ≡ first_slot old.rule frame = ap (λ (q : SlotRule). first_slot q frame) same in
-    let behind = all_rise rises r new.sound (frame - r.spread) frame (omega arith) in
-    record { least = omega (arith, now, last); most = omega (arith, behind, now, last) }
+first_range rises old new frame e = grind (arith, all_rise)
 
 -- and when it has ended
 pub left_range : CountRises → (old new : SlotWindow) (in_frame : Bool) (frame : ℕ) → in_frame ≡ true
     → Reaches old.rule in_frame frame old.end → status_of new ≡ left (status_of old) frame
     → Reaches new.rule false (frame + 1) new.end
-left_range rises old new in_frame frame within h e =
-    let r = new.rule in
-    let sound = new.sound in
-    let same : new.rule ≡ old.rule = ap (λ (s : Status). s.rule) e in
-    let last : new.end ≡ old.end = ap (λ (s : Status). s.end) e in
-    let low : over_after old.rule frame ≤ old.end = (subst (λ (b : Bool). Reaches old.rule b frame old.end)
-    within h).least in
-    let high = h.most in
-    let now : over_after r frame ≡ over_after old.rule frame = ap (λ (q : SlotRule). over_after q frame) same in
-    let s = sound.spread in
-    let before = all_rise rises r sound (frame + 1 - r.spread) frame (omega (arith, s)) in
-    let behind = all_rise rises r sound frame (frame + 1) (omega arith) in
-    record { least = omega (arith, before, now, low, last); most = omega (arith, behind, now, high, last) }
+left_range rises old new in_frame frame within h e = grind (arith, all_rise)
 
 -- A frame has ended, and these blocks came of the epoch under way.
 module _ {r : SlotRule} {first frame count : ℕ} {epochs : List Epoch} {blocks : List (Option Block)} {released : ℕ}
@@ -183,48 +122,20 @@ module _ {r : SlotRule} {first frame count : ℕ} {epochs : List Epoch} {blocks 
 
   ends : (more : List Epoch) → Both r (string_of r.up_len (epoch_of r first) more) a old
       → HaveEnded r first (frame + 1) more → Stands a new (frame + 1) r first (count + 1) more released
-  ends more both ended =
-      let reach : reached r first (count + 1) ≡ over_after r frame =
-      ap (reached r first) (let one : count + 1 ≡ suc count = omega arith in one) ∙ ap (over_after r) (sym h.number) in
-      record {
-        both = both_by r _ a new (left (status_of old) frame) e both.assembles both.rule both.shows;
-        number = omega (arith, h.number);
-        ended = ended;
-        begin = ap (λ (s : Status). s.first) e ∙ h.begin;
-        end = ap (λ (s : Status). s.end) e ∙ h.end ∙ sym reach;
-        due = ap (λ (s : Status). s.due_end) e ∙ ap (λ (q : SlotRule). due_after q (frame + 1)) both.rule;
-      }
+  ends more both ended = grind (arith, both_by)
 
   -- and an epoch with it
   pub ends_with : (epoch : Epoch) → ((frame + 1) % old.rule.spread == 0) ≡ true
       → Both r (string_of r.up_len (epoch_of r first) epochs ++ epoch_items r.up_len (epoch_of r frame) epoch) a old
       → Stands a new (frame + 1) r first (count + 1) (epochs ++ epoch ∷ []) released
   ends_with epoch last both =
-      let over : (frame + 1) % r.spread ≡ 0 =
-      subst (λ (s : SlotRule). (frame + 1) % s.spread ≡ 0) h.both.rule
-      (eqb-true ((frame + 1) % old.rule.spread) 0 last) in
-      let more : length (epochs ++ epoch ∷ []) ≡ length epochs + 1 = length-append epochs (epoch ∷ []) ∙ omega arith in
-      let string : string_of r.up_len (epoch_of r first) epochs ++ epoch_items r.up_len (epoch_of r frame) epoch
-      ≡ string_of r.up_len (epoch_of r first) (epochs ++ epoch ∷ []) =
-      sym (string_append r.up_len (epoch_of r first) epochs (epoch ∷ [])
-      ∙ ap (λ (y : List Item). string_of r.up_len (epoch_of r first) epochs ++ y)
-      (one_epoch r.up_len (epoch_of r first + length epochs) epoch ∙ ap (λ (m : ℕ). epoch_items r.up_len m epoch)
-      h.ended)) in
-      ends (epochs ++ epoch ∷ []) (subst (λ (z : List Item). Both r z a old) string both)
-      (omega (arith, more, h.ended, next_epoch r.spread frame sound.spread over))
+      grind (arith, eqb-true, length-append, string_append, one_epoch, ends, next_epoch, sound)
 
   -- and no epoch
   pub passes : ((frame + 1) % old.rule.spread == 0) ≡ false
       → Both r (string_of r.up_len (epoch_of r first) epochs) a old
       → Stands a new (frame + 1) r first (count + 1) epochs released
-  passes inner both =
-      let goes : (frame + 1) / r.spread ≡ frame / r.spread =
-      same_epoch r.spread frame sound.spread
-      (λ (z : (frame + 1) % r.spread ≡ 0).
-      both_ways ((frame + 1) % r.spread == 0) (ap (λ (q : SlotRule). (frame + 1) % q.spread == 0) (sym h.both.rule)
-      ∙ inner)
-      (eq-eqb ((frame + 1) % r.spread) 0 z)) in
-      ends epochs both (omega (arith, h.ended, goes))
+  passes inner both = grind (arith, same_epoch, sound, both_ways, eq-eqb, ends)
 
 -- One block more came, or one that is not taken.
 pub takes : (r : SlotRule) (first frame count : ℕ) (epochs : List Epoch) (blocks : List (Option Block))
@@ -235,23 +146,7 @@ pub takes : (r : SlotRule) (first frame count : ℕ) (epochs : List Epoch) (bloc
     ++ block_or_gap r.up_len (epoch_of r frame) block) b new
     → Within b new frame r first count epochs (blocks ++ block ∷ []) released
 takes r first frame count epochs blocks block released a b old new h t both =
-    let m : ℕ = epoch_of r frame in
-    let z : List Item = string_of r.up_len (epoch_of r first) epochs in
-    record {
-      both =
-          let more : blocks_items r.up_len m (blocks ++ block ∷ []) ≡ blocks_items r.up_len m blocks
-          ++ block_or_gap r.up_len m block =
-          flat_map-append (block_or_gap r.up_len m) blocks (block ∷ [])
-          ∙ ap (λ (y : List Item). blocks_items r.up_len m blocks ++ y) (append-nil (block_or_gap r.up_len m block)) in
-          subst (λ (z : List Item). Both r z b new)
-          (append_assoc z (blocks_items r.up_len m blocks) (block_or_gap r.up_len m block)
-          ∙ ap (λ (y : List Item). z ++ y)
-          (sym more)) both;
-      number = h.number;
-      ended = h.ended;
-      begin = t.first ∙ h.begin;
-      end = t.end ∙ h.end;
-    }
+    grind (arith, flat_map-append, append-nil, append_assoc)
 
 pub length_readback : (r : SlotRule) (first count : ℕ) (epochs : List Epoch) → length (readback r first count epochs)
     ≡ due_after r (first + count) - first_slot r first
@@ -275,14 +170,7 @@ module _ {a : Assembler} {old : SlotWindow} {next : ℕ} {r : SlotRule} {first c
   none_due l = omega (arith, h.begin, due_end_is, l, length_readback r first count epochs)
 
   same_stands : (new : SlotWindow) → status_of new ≡ status_of old → Stands a new next r first count epochs released
-  same_stands new e = record {
-    both = both_by r _ a new (status_of old) e h.both.assembles h.both.rule h.both.shows;
-    number = h.number;
-    ended = h.ended;
-    begin = ap (λ (s : Status). s.first) e ∙ h.begin;
-    end = ap (λ (s : Status). s.end) e ∙ h.end;
-    due = ap (λ (s : Status). s.due_end) e ∙ h.due;
-  }
+  same_stands new e = grind (arith, both_by)
 
   step : old.first < old.due_end → old.due_end ≤ old.end
       → (get_or old.slots.items 0 None ≡ slot_option r (string_of r.up_len (epoch_of r first) epochs) old.first)
@@ -292,14 +180,7 @@ module _ {a : Assembler} {old : SlotWindow} {next : ℕ} {r : SlotRule} {first c
 
   release_stands : (new : SlotWindow) → status_of new ≡ given (status_of old) → old.first < old.due_end
       → old.due_end ≤ old.end → Stands a new next r first count epochs (released + 1)
-  release_stands new e due known = record {
-    both = both_by r _ a new (given (status_of old)) e h.both.assembles h.both.rule (step due known).1;
-    number = h.number;
-    ended = h.ended;
-    begin = omega (arith, h.begin, ap (λ (s : Status). s.first) e);
-    end = ap (λ (s : Status). s.end) e ∙ h.end;
-    due = ap (λ (s : Status). s.due_end) e ∙ h.due;
-  }
+  release_stands new e due known = grind (arith, both_by, step)
 
   front_given : old.first < old.due_end → old.due_end ≤ old.end
       → slice_get (readback r first count epochs) released ≡ Some (front_packet (status_of old))
@@ -324,9 +205,7 @@ module _ {a : Assembler} {old : SlotWindow} {next : ℕ} {r : SlotRule} {first c
   pub release_answers : (b : Bool) → b ≡ true → b ≡ nat_lt old.first old.due_end → (out before : List ℕ)
       → out ≡ (if b then front_packet (status_of old) else before) → old.due_end ≤ old.end
       → slice_get (readback r first count epochs) released ≡ Some out
-  release_answers b e t out before packet known =
-      front_given (ltb-true _ _ (sym t ∙ e)) known
-      ∙ ap Some (sym (packet ∙ ap (λ (x : Bool). cond {A = List ℕ} x (front_packet (status_of old)) before) e))
+  release_answers b e t out before packet known = grind (arith, front_given, ltb-true)
 
 -- the same with another name of the frame and the assembler
 pub stands_at : {a b : Assembler} {w : SlotWindow} {n m : ℕ} {r : SlotRule} {first count : ℕ} {epochs : List Epoch}

@@ -1,5 +1,5 @@
 -- What a receiver stands for, record by record.
-use Rattle.std.proofs.Common.{◌≡◌, ◌≢◌, ℕ, zero, suc, ◌+◌, ◌-◌, ◌%◌, ◌≤◌, ◌==◌, Bool, true, false, List, [], ◌∷◌, ◌++◌}
+use Rattle.std.proofs.Common.{◌≡◌, ◌≢◌, ℕ, ◌+◌, ◌-◌, ◌%◌, ◌≤◌, ◌==◌, Bool, true, false, List, [], ◌∷◌, ◌++◌}
 use Rattle.std.proofs.Common.{length, Option, refl, ap, sym, subst, ◌∙◌, arith, length-append, eq-eqb}
 use Rattle.std.specs.Prelude.{nat_lt, if◌then◌else◌}
 use Rattle.std.proofs.lemmas.Bool.{eqb-true, both_ways}
@@ -103,12 +103,7 @@ pub begun : (c : Config) (plp : ℕ) (old new : PacketSlots) (h : HeldBlocks) (f
     → Fresh c plp old h
     → ((r : SlotRule) → slots.IsFresh old r → slots.PacketSlotsStandsFor new r first 0 [] 0)
     → Stands c plp new h first [] 0
-begun c plp old new h first some f step = record {
-  told = [];
-  tells = none_told c plp first;
-  stands = step (slot_rule c plp) f.fresh;
-  holds = first_seen c plp first some h f.none;
-}
+begun c plp old new h first some f step = grind (arith, none_told, first_seen)
 
 pub is_empty : (c : Config) (plp : ℕ) (old : PacketSlots) (h : HeldBlocks) → Fresh c plp old h
     → old.window.slots.items ≡ []
@@ -124,9 +119,7 @@ none_due p r f = let none = ap length f.empty in let span = p.window.span in let
 
 pub still_fresh : (c : Config) (plp : ℕ) (old new : PacketSlots) (h : HeldBlocks) → Fresh c plp old h → (result : Bool)
     → result ≡ nat_lt 0 (slots.due_of old) → (result ≡ false → new ≡ old) → Fresh c plp new h
-still_fresh c plp old new h f result due same =
-    subst (λ (p : PacketSlots). Fresh c plp p h)
-    (sym (same (due ∙ ap (nat_lt 0) (none_due old (slot_rule c plp) f.fresh)))) f
+still_fresh c plp old new h f result due same = grind (arith, none_due)
 
 -- the packets that the slots show
 pub given_back : (c : Config) (plp : ℕ) (p : PacketSlots) (h : HeldBlocks) (first : ℕ) (views : List RecordView)
@@ -149,13 +142,7 @@ pub held_is : (c : Config) (plp : ℕ) (p : PacketSlots) (h : HeldBlocks) (first
     → slots.PacketSlotsStandsFor p r first count epochs released
     → held ≡ held_slots r first count - released)
     → held ≡ slots_come c plp first (length views) - released
-held_is c plp p h first views released held s answer =
-    answer (slot_rule c plp) first (length views) s.told released s.stands
-    ∙ ap (λ (n : ℕ). n - released) (come (length views))
-  where
-    come : (n : ℕ) → held_slots (slot_rule c plp) first n ≡ slots_come c plp first n
-    come zero = omega arith
-    come (suc before) = refl
+held_is c plp p h first views released held s answer = grind arith
 
 pub released_or_not : (c : Config) (plp : ℕ) (old new : PacketSlots) (h : HeldBlocks) (first : ℕ)
     (views : List RecordView)
@@ -165,10 +152,4 @@ pub released_or_not : (c : Config) (plp : ℕ) (old new : PacketSlots) (h : Held
     → slots.PacketSlotsStandsFor old r first count epochs released
     → slots.PacketSlotsStandsFor new r first count epochs (if result then released + 1 else released))
     → Stands c plp new h first views (if result then released + 1 else released)
-released_or_not c plp old new h first views released result s step =
-    record {
-      told = s.told;
-      tells = s.tells;
-      stands = step (slot_rule c plp) first (length views) s.told released s.stands;
-      holds = s.holds;
-    }
+released_or_not c plp old new h first views released result s step = grind arith

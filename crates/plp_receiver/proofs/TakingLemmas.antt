@@ -1,6 +1,6 @@
 -- What is taken of bytes.
 use Rattle.std.proofs.Common.{◌≡◌, ℕ, ◌+◌, ◌*◌, ◌/◌, ◌==◌, ◌<◌, ◌≤◌, Bool, List, length, take}
-use Rattle.std.proofs.Common.{drop, get_or, Option, Some, None, ap, ◌∙◌, sym, subst, arith}
+use Rattle.std.proofs.Common.{drop, get_or, Option, Some, None, ap, ◌∙◌, sym, arith}
 use Rattle.std.specs.Prelude.{if◌then◌else◌, Result, Ok}
 use Rattle.std.proofs.lemmas.List.{get_or-drop}
 use Rattle.terms.specs.Bits.{bits_of, bytes_of, part}
@@ -20,9 +20,7 @@ block_with first issy field = record { first = first; issy = issy; field = field
 small_part : (bytes : List ℕ) → ((k : ℕ) → get_or bytes k 0 < 256) → (at count k : ℕ)
     → get_or (take count (drop at bytes)) k 0
     < 256
-small_part bytes small at count k =
-    small_take count (drop at bytes) (λ j. subst (λ (v : ℕ). v < 256) (sym (get_or-drop at bytes j 0)) (small (at + j)))
-    k
+small_part bytes small at count k = grind (arith, small_take, get_or-drop)
 
 -- the data field's bytes
 pub field_is : BitCounts → (bytes : List ℕ) → ((k : ℕ) → get_or bytes k 0 < 256) → (h : Header) (body : List Bool)

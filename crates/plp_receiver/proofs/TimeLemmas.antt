@@ -1,12 +1,12 @@
 -- Frames and epochs, and the slots that are over or given out after them.
-use Rattle.std.proofs.Common.{◌≡◌, ◌≢◌, ℕ, zero, suc, ◌+◌, ◌-◌, ◌*◌, ◌/◌, ◌%◌, ◌<◌, ◌≤◌, sym, ap, ◌∙◌, arith, inl, inr}
+use Rattle.std.proofs.Common.{◌≡◌, ◌≢◌, ℕ, ◌+◌, ◌-◌, ◌*◌, ◌/◌, ◌%◌, ◌<◌, ◌≤◌, sym, ap, ◌∙◌, arith, inl, inr}
 use Rattle.std.proofs.lemmas.Bool.{cases_lt}
 use Rattle.std.proofs.lemmas.Nat.{div-add-mod', div-mul-add, mod-mul-add}
 use Rattle.std.proofs.Math.Nat.{mul-le-mul_right, div-le_self, mod-lt, add-mul, mul_assoc}
 use Rattle.plp_config.specs.Laws.{CountRises, ReleasedFirst, ReleasedOld}
 use Rattle.plp_receiver.specs.declared.slot_rule.SlotRule.{SlotRule}
 use Rattle.plp_receiver.specs.Sound.{IsSound}
-use Rattle.plp_config.specs.SlotTimes.{delay_of, over_by}
+use Rattle.plp_config.specs.SlotTimes.{over_by}
 use Rattle.plp_receiver.specs.Times.{epoch_of, last_frame, over_after, due_after}
 
 -- ---- frames of an epoch
@@ -28,60 +28,20 @@ epoch_at spread epoch place l = div-mul-add epoch spread place l
 
 -- behind the last frame of an epoch the next one begins
 pub next_epoch : (spread frame : ℕ) → 1 ≤ spread → (frame + 1) % spread ≡ 0 → (frame + 1) / spread ≡ frame / spread + 1
-next_epoch spread frame l e =
-    let p = placed spread frame l in
-    let b = p.below in
-    let is = p.frame_is in
-    elim (cases_lt (p.place + 1) spread) [
-      | inl lt ↦
-          let f : frame + 1 ≡ frame / spread * spread + (p.place + 1) = omega (arith, is) in
-          let g : (frame + 1) % spread ≡ p.place + 1 =
-          ap (λ (n : ℕ). n % spread) f ∙ mod-mul-add (frame / spread) spread (p.place + 1) lt in
-          absurd (omega (arith, e, g))
-      | inr ge ↦
-          let more : (frame / spread + 1) * spread ≡ frame / spread * spread + spread = omega arith in
-          let f : frame + 1 ≡ (frame / spread + 1) * spread + 0 = omega (arith, is, more, b, ge) in
-          ap (λ (n : ℕ). n / spread) f ∙ div-mul-add (frame / spread + 1) spread 0 (omega (arith, l))
-    ]
+next_epoch spread frame l e = grind (arith, placed, cases_lt, mod-mul-add, div-mul-add)
 
 -- behind another one the epoch goes on
 pub same_epoch : (spread frame : ℕ) → 1 ≤ spread → (frame + 1) % spread ≢ 0 → (frame + 1) / spread ≡ frame / spread
-same_epoch spread frame l ne =
-    let p = placed spread frame l in
-    let b = p.below in
-    let is = p.frame_is in
-    elim (cases_lt (p.place + 1) spread) [
-      | inl lt ↦
-          let f : frame + 1 ≡ frame / spread * spread + (p.place + 1) = omega (arith, is) in
-          ap (λ (n : ℕ). n / spread) f ∙ div-mul-add (frame / spread) spread (p.place + 1) lt
-      | inr ge ↦
-          let more : (frame / spread + 1) * spread ≡ frame / spread * spread + spread = omega arith in
-          let f : frame + 1 ≡ (frame / spread + 1) * spread + 0 = omega (arith, is, more, b, ge) in
-          absurd (ne (ap (λ (n : ℕ). n % spread) f ∙ mod-mul-add (frame / spread + 1) spread 0 (omega (arith, l))))
-    ]
+same_epoch spread frame l ne = grind (arith, placed, cases_lt, div-mul-add, mod-mul-add)
 
 -- the last frame of a later epoch is no earlier frame
 pub last_is_late : (r : SlotRule) → 1 ≤ r.spread → (frame epoch : ℕ) → epoch_of r frame ≤ epoch
     → frame ≤ last_frame r epoch
-last_is_late r l frame epoch m =
-    let p = placed r.spread frame l in
-    let b = p.below in
-    let is = p.frame_is in
-    let q : frame / r.spread * r.spread ≤ epoch * r.spread = mul-le-mul_right r.spread m in
-    omega (arith, b, is, q, l)
+last_is_late r l frame epoch m = grind (arith, placed, mul-le-mul_right)
 
 -- an epoch that has ended did so before the frames of one epoch began
 pub ended_before : (r : SlotRule) → 1 ≤ r.spread → (frame : ℕ) → (epoch_of r frame - 1) * r.spread ≤ frame - r.spread
-ended_before r l frame = go (frame / r.spread) (placed r.spread frame l)
-  where
-    go : (m : ℕ) → IsPlaced r.spread frame m → (m - 1) * r.spread ≤ frame - r.spread
-    go zero p = let e : (zero - 1) * r.spread ≡ 0 = omega arith in omega (arith, e)
-    go (suc m) p =
-        let is = p.frame_is in
-        let e : suc m * r.spread ≡ m * r.spread + r.spread = omega arith in
-        let f : (suc m - 1) * r.spread ≡ m * r.spread = ap (λ (k : ℕ). k * r.spread)
-        (let g : suc m - 1 ≡ m = omega arith in g) in
-        omega (arith, e, f, is)
+ended_before r l frame = grind (arith, placed)
 
 -- ---- ticks
 pub tick_of_epochs : (r : SlotRule) → IsSound r → (epochs : ℕ) → epochs * r.times.epoch ≡ epochs * r.spread * r.ticks
@@ -103,18 +63,7 @@ last_tick_is r sound epoch =
 
 -- ---- slots
 early_tick : (frame spread ticks : ℕ) → frame * ticks - 3 * (spread * ticks) ≤ (frame - spread) * ticks
-early_tick frame spread ticks =
-    elim (cases_lt frame spread) [
-      | inl lt ↦
-          let q : frame * ticks ≤ spread * ticks = mul-le-mul_right {m = frame} {n = spread} ticks
-          (omega (arith, lt)) in
-          omega (arith, q)
-      | inr ge ↦
-          let e : frame ≡ (frame - spread) + spread = omega (arith, ge) in
-          let f : frame * ticks ≡ (frame - spread) * ticks + spread * ticks =
-          ap (λ (k : ℕ). k * ticks) e ∙ add-mul (frame - spread) spread ticks in
-          omega (arith, f)
-    ]
+early_tick frame spread ticks = grind (arith, cases_lt, mul-le-mul_right, add-mul)
 
 -- Slots that are given out were over when the frames of one epoch had not come yet.
 pub released_late : ReleasedOld → CountRises → (r : SlotRule) → IsSound r → (frame : ℕ)
@@ -135,10 +84,7 @@ released_late old rises r sound frame =
 
 pub all_rise : CountRises → (r : SlotRule) → IsSound r → (frame later : ℕ) → frame ≤ later → over_after r frame
     ≤ over_after r later
-all_rise rises r sound frame later l =
-    let a = sound.times.some in
-    let b = sound.times.long in
-    rises r.times.num r.times.den (frame * r.ticks) (later * r.ticks) (omega (arith, a, b)) (mul-le-mul_right r.ticks l)
+all_rise rises r sound frame later l = grind (arith, mul-le-mul_right)
 
 -- The slots of the epochs that have ended were over then, too.
 pub ended_over : CountRises → (r : SlotRule) → IsSound r → (frame : ℕ) → over_by r.times (epoch_of r frame - 1)
@@ -156,24 +102,8 @@ ended_over rises r sound frame =
 -- ---- before all frames
 -- No slot is over then,
 pub none_over : (r : SlotRule) → over_after r (0 - r.spread) ≤ 0
-none_over r =
-    let e : 0 - r.spread ≡ 0 = omega arith in
-    let f : over_after r (0 - r.spread) ≡ over_after r 0 = ap (over_after r) e in
-    let g = div-le_self (0 * r.ticks * r.times.den) r.times.num in
-    let h : 0 * r.ticks * r.times.den ≡ 0 = omega arith in
-    omega (arith, f, g, h)
+none_over r = grind (arith, div-le_self)
 
 -- and none is given out.
 pub none_given : ReleasedFirst → (r : SlotRule) → IsSound r → due_after r 0 ≡ 0
-none_given law r sound =
-    let a = sound.times.some in
-    let b = sound.times.long in
-    elim (cases_lt 0 (due_after r 0)) [
-      | inl lt ↦
-          let p = (law r.times.num r.times.den (delay_of r.times) (0 * r.ticks) 0 (omega (arith, a, b))
-          (omega (arith, a))).0
-          lt in
-          let e : 0 * r.ticks ≡ 0 = omega arith in
-          absurd (omega (arith, p, e))
-      | inr ge ↦ omega (arith, ge)
-    ]
+none_given law r sound = grind (arith, cases_lt)

@@ -9,7 +9,7 @@ use Rattle.plp_receiver.specs.declared.slot_rule.SlotRule.{SlotRule}
 use Rattle.plp_receiver.specs.Strings.{Item, is_start, is_inside}
 use Rattle.plp_receiver.specs.declared.mark.Mark.TheVariants.{Gap, Inside, Next, Timed}
 use Rattle.plp_receiver.specs.Packets.{UserPacket, is_one, slot_of, slot_before, slots_at, with_slot, user_packets}
-use Rattle.plp_receiver.specs.Machine.{State, Turn, state_of, turn_of, before_next, ended, grown, inside, turn_by, turn}
+use Rattle.plp_receiver.specs.Machine.{State, Turn, state_of, turn_of, before_next, ended, grown, inside, turn}
 use Rattle.plp_receiver.specs.Machine.{after, given, idle_or_one, Follows}
 use Rattle.plp_receiver.proofs.OneLemmas.{none_on, none_cut, one_on, one_alone, none_alone, one_parts}
 use Rattle.plp_receiver.proofs.SlotLemmas.{same_before, before_none, one_more_slot, one_more_packet, none_ends, Stays}
@@ -99,14 +99,7 @@ module _ (r : SlotRule) (two : 2 ≤ r.up_len) (z : List Item) (b : Item) where
   }
 
   gapped : is_inside b.mark ≡ false → is_start b.mark ≡ false → Turned (turn_of (state_of [] None) [])
-  gapped i s =
-      let each : (x : ℕ) → x < length more → is_one (drop x more) ≡ false = λ x l.
-      elim (cases_lt x (length z)) [
-        | inl lt ↦ cut_more x lt i
-        | inr ge ↦ let e : x ≡ length z = omega (arith, size) in
-            subst (λ (k : ℕ). is_one (drop k more) ≡ false) (sym e) (last_none s)
-      ] in
-      closes (no_end r z b (omega arith) (λ x e. each x (omega (arith, size)))) (λ x l m. each x l)
+  gapped i s = grind (arith, cases_lt, cut_more, size, last_none, closes, no_end)
 
   started : (held : List Item) (before : Option ℕ) → Follows r z (state_of held before) → is_inside b.mark ≡ false
       → is_start b.mark ≡ true → Turned (turn_of (state_of (b ∷ []) (before_next held before)) [])
@@ -129,15 +122,7 @@ module _ (r : SlotRule) (two : 2 ≤ r.up_len) (z : List Item) (b : Item) where
 
   waits : (before : Option ℕ) → Follows r z (state_of [] before) → is_start b.mark ≡ false
       → Turned (turn_of (state_of [] None) [])
-  waits before f st =
-      let each : (x : ℕ) → x < length more → length z < x + r.up_len → is_one (drop x more) ≡ false = λ x l m.
-      elim (cases_lt x (length z)) [
-        | inl lt ↦ none_more x lt (f.others x lt m (λ (q : x ≡ length z - 0). omega (arith, q)))
-        | inr ge ↦ let q : x ≡ length z = omega (arith, size) in
-            subst (λ (k : ℕ). is_one (drop k more) ≡ false) (sym q) (last_none st)
-      ] in
-      closes (no_end r z b (omega arith) (λ x q. each x (omega (arith, size)) (omega arith)))
-      (λ x l m. each x l (omega (arith, size)))
+  waits before f st = grind (arith, cases_lt, none_more, size, last_none, closes, no_end)
 
   -- the user packet that is held gets a byte more
   module _ (held : List Item) (before : Option ℕ) (f : Follows r z (state_of held before)) (some : 1 ≤ length held)
@@ -155,12 +140,7 @@ module _ (r : SlotRule) (two : 2 ≤ r.up_len) (z : List Item) (b : Item) where
     longer = length-append held (b ∷ []) ∙ omega arith
 
     each : (x : ℕ) → x < length more → length z < x + r.up_len → x ≢ from → is_one (drop x more) ≡ false
-    each x l m ne =
-        elim (cases_lt x (length z)) [
-          | inl lt ↦ none_more x lt (f.others x lt m ne)
-          | inr ge ↦ let q : x ≡ length z = omega (arith, size) in
-              subst (λ (k : ℕ). is_one (drop k more) ≡ false) (sym q) (last_none st)
-        ]
+    each x l m ne = grind (arith, cases_lt, none_more, size, last_none)
 
     goes_on : length held + 1 < r.up_len → Turned (turn_of (state_of (held ++ b ∷ []) before) [])
     goes_on l =
@@ -200,12 +180,7 @@ module _ (r : SlotRule) (two : 2 ≤ r.up_len) (z : List Item) (b : Item) where
         }
 
     grows : Turned (grown r (held ++ b ∷ []) before)
-    grows =
-        elim (cases_lt (length (held ++ b ∷ [])) r.up_len) [
-          | inl lt ↦ rw (lt-ltb (length (held ++ b ∷ [])) r.up_len lt) (goes_on (omega (arith, longer)))
-          | inr ge ↦ rw (le-ltb (length (held ++ b ∷ [])) r.up_len ge)
-              (completes (let s = f.short in omega (arith, longer, s)))
-        ]
+    grows = grind (arith, cases_lt, lt-ltb, goes_on, longer, le-ltb, completes)
 
   insides : (held : List Item) (before : Option ℕ) → Follows r z (state_of held before) → is_inside b.mark ≡ true
       → is_start b.mark ≡ false → Turned (inside r held before b)
@@ -214,13 +189,7 @@ module _ (r : SlotRule) (two : 2 ≤ r.up_len) (z : List Item) (b : Item) where
 
   pub turns : (s : State) → Follows r z s → Turned (turn r s b)
   unfolding turn
-  turns s f = go b.mark refl
-    where
-      go : (m : Mark) → b.mark ≡ m → Turned (turn_by r s.held s.before b m)
-      go Gap e = gapped (ap is_inside e) (ap is_start e)
-      go Inside e = insides s.held s.before f (ap is_inside e) (ap is_start e)
-      go Next e = started s.held s.before f (ap is_inside e) (ap is_start e)
-      go (Timed iscr) e = started s.held s.before f (ap is_inside e) (ap is_start e)
+  turns s f = grind (arith, gapped, insides, started)
 
 -- the machine over a string
 pub record Reads (r : SlotRule) (z y : List Item) (s : State) : Type 0 where
@@ -246,10 +215,4 @@ reads r two (x ∷ y) z s f =
     }
 
 pub begins_idle : (r : SlotRule) → 1 ≤ r.up_len → Follows r [] (state_of [] None)
-begins_idle r l = record {
-  before = sym (before_none r [] 0 (omega arith));
-  tail = refl;
-  short = omega arith;
-  begins = refl;
-  others = λ x k m ne. absurd (omega arith);
-}
+begins_idle r l = grind (arith, before_none)

@@ -21,7 +21,7 @@ use Rattle.plp_config.specs.Plps.{spread}
 use Rattle.plp_receiver.specs.Sound.{IsSound}
 use Rattle.plp_receiver.specs.Parts.{Part, count_of}
 use Rattle.plp_receiver.specs.Taken.{block_read, IsTaken, IsTold, IsGiven, bytes_at}
-use Rattle.plp_receiver.specs.Epochs.{epoch_parts, cells_stand, place_of, Tells, epochs_in, TellAll, slot_rule}
+use Rattle.plp_receiver.specs.Epochs.{epoch_parts, cells_stand, place_of, Tells, TellAll, slot_rule}
 use Rattle.plp_receiver.specs.Epochs.{Readback}
 use Rattle.plp_receiver.proofs.EpochLemmas.{epoch_rises, told_after}
 use Rattle.plp_receiver.proofs.SpelledLemmas.{spelled_once}
@@ -92,10 +92,7 @@ tells_once counts c plp (Some (p ∷ parts)) a b s t =
 pub tell_all_once : BitCounts → (c : Config) (plp first : ℕ) (views : List RecordView) (a b : List Epoch)
     → TellAll c plp first views a → TellAll c plp first views b → a ≡ b
 unfolding TellAll
-tell_all_once counts c plp first views a b s t =
-    zip_once (λ m e. Tells c plp (epoch_parts c plp first views m) e)
-    (λ m x y u v. tells_once counts c plp (epoch_parts c plp first views m) x y u v)
-    (epochs_in (spread c.plps plp) first (length views)) a b s t
+tell_all_once counts c plp first views a b s t = grind (arith, zip_once, tells_once)
 
 -- ---- the packets
 pub packets_are : BitCounts → (c : Config) (plp first : ℕ) (views : List RecordView) (packets : List (List ℕ))
@@ -115,14 +112,7 @@ readback_once counts c plp first views packets other a b =
 pub told_ended : (c : Config) (plp first : ℕ) (views : List RecordView) (told : List Epoch) → 1 ≤ spread c.plps plp
     → TellAll c plp first views told → HaveEnded (slot_rule c plp) first (first + length views) told
 unfolding TellAll
-told_ended c plp first views told some t =
-    let s : ℕ = spread c.plps plp in
-    let low = epoch_rises s first (first + length views) some (omega arith) in
-    let long = AllZip-long (λ m e. Tells c plp (epoch_parts c plp first views m) e)
-    (epochs_in s first (length views)) told t in
-    let size : length (epochs_in s first (length views)) ≡ (first + length views) / s - first / s =
-    length-range_with_len (first / s) ((first + length views) / s - first / s) in
-    omega (arith, low, long, size)
+told_ended c plp first views told some t = grind (arith, epoch_rises, AllZip-long, length-range_with_len)
 
 -- those of the first records are a prefix
 tell_front : (c : Config) (plp first : ℕ) (views more : List RecordView) (told : List Epoch) → 1 ≤ spread c.plps plp

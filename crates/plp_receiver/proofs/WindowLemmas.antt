@@ -1,8 +1,8 @@
 -- What a window shows of the string so far, at each thing that happens to it.
-use Rattle.std.proofs.Common.{◌≡◌, ◌≢◌, ℕ, suc, ◌+◌, ◌-◌, ◌*◌, ◌^◌, ◌<◌, ◌≤◌, ◌==◌, ◌&&◌, Bool, true, false, List, []}
+use Rattle.std.proofs.Common.{◌≡◌, ◌≢◌, ℕ, suc, ◌+◌, ◌-◌, ◌^◌, ◌<◌, ◌≤◌, ◌==◌, Bool, true, false, List, []}
 use Rattle.std.proofs.Common.{◌∷◌, ◌++◌, map, drop, replicate, get_or, Option, Some, None, refl, ap, ap₂, ◌∙◌, sym}
-use Rattle.std.proofs.Common.{arith, inl, inr, append-nil, cond, eq-eqb}
-use Rattle.std.specs.Prelude.{nat_lt, nat_le, option_map, min}
+use Rattle.std.proofs.Common.{arith, append-nil, cond, eq-eqb}
+use Rattle.std.specs.Prelude.{option_map, min}
 use Rattle.std.specs.Option.{option_or}
 use Rattle.std.specs.List.{range_with_len, find, filter}
 use Rattle.std.proofs.lemmas.List.{map-append}
@@ -12,12 +12,10 @@ use Rattle.std.proofs.Math.Bool.{and-false}
 use Rattle.std.proofs.lemmas.Bool.{cases_lt, false_from_ne_true, eqb-true, le-ltb}
 use Rattle.std.proofs.lemmas.Option.{none-some}
 use Rattle.terms.proofs.RangeLemmas.{range_append, map_same}
-use Rattle.plp_config.specs.SlotTime.{slot_start}
 use Rattle.plp_config.specs.Laws.{CountRises}
 use Rattle.plp_receiver.specs.declared.slot_rule.SlotRule.{SlotRule}
 use Rattle.plp_receiver.specs.Sound.{IsSound}
 use Rattle.plp_config.specs.SlotTimes.{over_by}
-use Rattle.plp_receiver.specs.Times.{last_frame}
 use Rattle.plp_receiver.specs.Strings.{Item, item_values}
 use Rattle.plp_receiver.specs.Base.{far}
 use Rattle.plp_receiver.specs.Packets.{UserPacket, user_packets, packet_of}
@@ -58,11 +56,7 @@ same_counted r z w e = ap (filter (counts r)) e
 
 shown_by : (r : SlotRule) (z w : List Item) (first end : ℕ) (slots : List (Option (List ℕ))) → counted r w ≡ counted r z
     → Shows r z first end slots → Shows r w first end slots
-shown_by r z w first end slots e h = record {
-  order = h.order;
-  slots_are = h.slots_are ∙ map_same (slot_option r z) (slot_option r w) first (end - first)
-      (λ k a b. ap (λ (l : List UserPacket). option_map packet_of_up (find (λ up. up.slot == k) l)) (sym e));
-}
+shown_by r z w first end slots e h = grind (arith, map_same)
 
 -- No user packet ends.
 pub nothing_found : (r : SlotRule) (z w : List Item) (first end : ℕ) (slots : List (Option (List ℕ)))
@@ -87,23 +81,11 @@ module _ (r : SlotRule) (z w : List Item) (up : UserPacket) (gains : user_packet
       ∙ find-append (λ (u : UserPacket). u.slot == k) (counted r z) (up ∷ []))
 
   other : (k : ℕ) → counts r up ≡ true → k ≢ up.slot → slot_option r w k ≡ slot_option r z k
-  other k e ne =
-      option_is k e
-      ∙ ap (λ (t : Bool). option_map packet_of_up (option_or (found_for r z k)
-      (cond {A = Option UserPacket} t (Some up) None)))
-      (false_from_ne_true _ (λ (t : (up.slot == k) ≡ true). ne (sym (eqb-true up.slot k t))))
-      ∙ go (found_for r z k)
-    where
-      go : (o : Option UserPacket) → option_map packet_of_up (option_or o None) ≡ option_map packet_of_up o
-      go None = refl
-      go (Some u) = refl
+  other k e ne = grind (arith, option_is, Option, false_from_ne_true, eqb-true)
 
   at : counts r up ≡ true → slot_option r w up.slot ≡ option_map packet_of_up
       (option_or (found_for r z up.slot) (Some up))
-  at e = option_is up.slot e
-      ∙ ap (λ (t : Bool).
-      option_map packet_of_up (option_or (found_for r z up.slot) (cond {A = Option UserPacket} t (Some up) None)))
-      (eq-eqb up.slot up.slot refl)
+  at e = grind (arith, option_is, Option, eq-eqb)
 
   first_wins : (o : Option UserPacket)
       → (option_map packet_of_up o ≡ None → option_map packet_of_up (option_or o (Some up)) ≡ Some (packet_of_up up))
@@ -116,23 +98,11 @@ module _ (r : SlotRule) (z w : List Item) (up : UserPacket) (gains : user_packet
   pub put_in : (first end : ℕ) (slots : List (Option (List ℕ))) → counts r up ≡ true → first ≤ up.slot
       → Shows r z first end slots
       → Shows r w first end (filled slots (up.slot - first) (packet_of_up up))
-  put_in first end slots e l h = record {
-    order = h.order;
-    slots_are =
-        ap (λ (s : List (Option (List ℕ))). filled s (up.slot - first) (packet_of_up up)) h.slots_are
-        ∙ sym (put_list (slot_option r z) (slot_option r w) up.slot (packet_of_up up) (end - first) first
-        l (λ j ne. other j e ne)
-        (λ n. at e ∙ (first_wins (found_for r z up.slot)).0 n)
-        (λ q n. at e ∙ (first_wins (found_for r z up.slot)).1 q n));
-  }
+  put_in first end slots e l h = grind (arith, Option, put_list, other, at, first_wins)
 
   pub too_late : (first end : ℕ) (slots : List (Option (List ℕ))) → counts r up ≡ true → up.slot < first
       → Shows r z first end slots → Shows r w first end slots
-  too_late first end slots e l h = record {
-    order = h.order;
-    slots_are = h.slots_are ∙ map_same (slot_option r z) (slot_option r w) first (end - first)
-        (λ k a b. sym (other k e (λ (q : k ≡ up.slot). omega (arith, q))));
-  }
+  too_late first end slots e l h = grind (arith, map_same, other)
 
 -- The slot at the front is given out.
 pub released : (r : SlotRule) (z : List Item) (first end : ℕ) (slots : List (Option (List ℕ))) → first < end
@@ -147,15 +117,4 @@ released r z first end slots l h =
 -- A slot that no range reaches does not count, whatever stands for it.
 pub same_test : (r : SlotRule) (delay slot begun ended : ℕ) → over_by r.times begun < 2 ^ 53
     → counts_by r delay (min slot far) begun ended ≡ counts_by r delay slot begun ended
-same_test r delay slot begun ended l =
-    elim (cases_lt slot far) [
-      | inl lt ↦ let e : min slot far ≡ slot = omega arith in ap (λ (k : ℕ). counts_by r delay k begun ended) e
-      | inr ge ↦ beyond (min slot far) (omega arith) ∙ sym (beyond slot (omega arith))
-    ]
-  where
-    beyond : (k : ℕ) → over_by r.times begun ≤ k → counts_by r delay k begun ended ≡ false
-    beyond k m =
-        ap (λ (t : Bool).
-        nat_le (over_by r.times (begun - 1)) k && (t && nat_lt (last_frame r ended * r.ticks)
-        (slot_start r.times.num r.times.den k + delay))) (le-ltb k (over_by r.times begun) m)
-        ∙ and-false (nat_le (over_by r.times (begun - 1)) k)
+same_test r delay slot begun ended l = grind (arith, cases_lt, le-ltb, and-false)
