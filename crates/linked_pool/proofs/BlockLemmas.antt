@@ -78,11 +78,7 @@ pub length-block : (chunks : List (List ℕ)) (lens chain : List ℕ) → Whole 
     → front_chunks lens chain ≤ length chain →
     length (take (get_or lens (get_or chain 0 0) 0) (joined chunks (take (front_chunks lens chain) chain)))
     ≡ get_or lens (get_or chain 0 0) 0
-length-block chunks lens chain w h =
-    let k : ℕ = front_chunks lens chain in
-    let len = length-joined chunks (take k chain) (whole_take chunks k chain w) in
-    let size = length-take-le k chain h in
-    length-take-le (get_or lens (get_or chain 0 0) 0) (joined chunks (take k chain)) (omega (arith, len, size))
+length-block chunks lens chain w h = grind (arith, length-joined, whole_take, length-take-le)
 
 pub chunks_of-cons : (block : List ℕ) (blocks : List (List ℕ)) → chunks_of (block ∷ blocks) ≡ chunks_for (length block)
     + chunks_of blocks
@@ -271,17 +267,7 @@ pub without_is : (view : State) (chains chunks chains' : List (List ℕ)) (lens 
     blocks_of chunks lens m (drop k (get_or chains (i + 1) [])) ≡ drop n (list_at view i)
     → k ≡ chunks_of (take n (list_at view i)) →
     view_of chains' chunks lens counts' ≡ without view i n
-without_is view chains chunks chains' lens counts counts' i k m n e p h s ce ne blocks spare =
-    let a : view_of chains' chunks lens counts' ≡ view_of (moved chains (i + 1) 0 k) chunks lens (set counts i m) =
-    rw (ce, ne) refl in
-    let b : lists_of chunks lens (set counts i m) (drop 1 (moved chains (i + 1) 0 k))
-    ≡ set view.lists i (drop n (list_at view i)) =
-    s.lists ∙ ap (set (lists_of chunks lens counts (drop 1 chains)) i) blocks
-    ∙ ap (λ (v : State). set v.lists i (drop n (list_at view i))) (sym e) in
-    let c : length (get_or (moved chains (i + 1) 0 k) 0 []) ≡ view.spare + chunks_of (take n (list_at view i)) =
-    s.spare ∙ ap (λ (v : State). v.spare + k) (sym e) ∙ ap (λ (x : ℕ). view.spare + x) spare in
-    let d : length chunks ≡ view.opened = ap (λ (v : State). v.opened) (sym e) in
-    a ∙ rw (b, c, d) refl
+without_is view chains chunks chains' lens counts counts' i k m n e p h s ce ne blocks spare = grind arith
 
 -- the first of some blocks
 pub record Front (chains chunks : List (List ℕ)) (lens counts : List ℕ) (i : ℕ) : Type 0 where
@@ -331,20 +317,11 @@ pop_shrinks chains chunks lens counts i p h some =
 
 -- a list without blocks
 pub empty_without : (view : State) (i : ℕ) → length (list_at view i) ≡ 0 → view ≡ popped view i
-empty_without view i none =
-    let e : list_at view i ≡ [] = nil_from_length (list_at view i) none in
-    let a : set view.lists i (drop 1 (list_at view i)) ≡ view.lists =
-    rw e (ap (set view.lists i) (sym e) ∙ set-get_or view.lists i []) in
-    let b : view.spare + chunks_of (take 1 (list_at view i)) ≡ view.spare = rw e (omega arith) in
-    sym (rw (a, b) refl)
+empty_without view i none = grind (arith, nil_from_length, set-get_or)
 
 -- without its blocks
 without_all : (view : State) (i : ℕ) → without view i (length (list_at view i)) ≡ cleared view i
-without_all view i =
-    let bs : List (List ℕ) = list_at view i in
-    let none : drop (length bs) bs ≡ [] = drop_all (length bs) bs (omega arith) in
-    let all : take (length bs) bs ≡ bs = take_all (length bs) bs (omega arith) in
-    rw (none, all) refl
+without_all view i = grind (arith, drop_all, take_all)
 
 pub clear_law : (view : State) (chains chunks chains' : List (List ℕ)) (lens counts : List ℕ) (i k : ℕ)
     → view ≡ view_of chains chunks lens counts → IsPool chains chunks lens counts → i < length view.lists →

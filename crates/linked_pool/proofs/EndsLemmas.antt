@@ -64,30 +64,7 @@ pub ends_shrunk : (chains : List (List ℕ)) (lens lasts counts : List ℕ) (i k
     → Ends lens lasts m (drop k (get_or chains (i + 1) [])) → AreEnds (moved chains (i + 1) 0 k) lens
     lasts (set counts i m)
 ends_shrunk chains lens lasts counts i k m all hi h e =
-    let c : List ℕ = get_or chains (i + 1) [] in
-    let free : List ℕ = get_or chains 0 [] in
-    let first : List (List ℕ) = set chains (i + 1) (drop k c) in
-    record {
-      lasts_too = all.lasts_too;
-      each = λ j lt0.
-          let lt : j < length counts = rw (length-set counts i m) at lt0 in
-          let nz : j + 1 ≢ 0 = (λ z. omega (arith, z)) in
-          let a : get_or (moved chains (i + 1) 0 k) (j + 1) [] ≡ get_or first (j + 1) [] =
-          get_or-set_other first 0 (j + 1) (free ++ take k c) [] nz in
-          rw a
-          (bool_cases (eqb j i)
-          (λ z. let same : i ≡ j = sym (eqb-true j i z) in
-          let x : get_or first (i + 1) [] ≡ drop k c = get_or-set_same chains (i + 1) (drop k c) [] hi in
-          let y : get_or (set counts i m) i 0 ≡ m = get_or-set_same counts i m 0 h in
-          let here : Ends lens lasts (get_or (set counts i m) i 0) (get_or first (i + 1) []) = rw (x, y) e in
-          subst (λ (v : ℕ). Ends lens lasts (get_or (set counts i m) v 0) (get_or first (v + 1) [])) same here)
-          (λ z. let other : j ≢ i = eqb-false j i z in
-          let nx : j + 1 ≢ i + 1 = (λ v. other (omega (arith, v))) in
-          let x : get_or first (j + 1) [] ≡ get_or chains (j + 1) [] = get_or-set_other chains (i + 1)
-          (j + 1) (drop k c) [] nx in
-          let y : get_or (set counts i m) j 0 ≡ get_or counts j 0 = get_or-set_other counts i j m 0 other in
-          rw (x, y) (all.each j lt)));
-    }
+    grind (arith, length-set, get_or-set_other, bool_cases, eqb, eqb-true, get_or-set_same, eqb-false)
 
 pub ends_popped : (chains chunks chains' : List (List ℕ)) (lens lasts counts : List ℕ) (i k n : ℕ)
     → IsPool chains chunks lens counts → AreEnds chains lens lasts counts → i < length counts → 0 < get_or counts i 0
@@ -202,12 +179,4 @@ pub moved_place : (chains chains' : List (List ℕ)) (i k : ℕ) → chains' ≡
     → k ≤ length (get_or chains 0 [])
     → (i + 1 < length chains') × (0 < length (get_or chains' (i + 1) []))
 moved_place chains chains' i k moves hi some enough =
-    let free : List ℕ = get_or chains 0 [] in
-    let c : List ℕ = get_or chains (i + 1) [] in
-    let first : List (List ℕ) = set chains 0 (drop k free) in
-    let long : length first ≡ length chains = length-set chains 0 (drop k free) in
-    let all : length (moved chains 0 (i + 1) k) ≡ length chains = length-set first (i + 1) (c ++ take k free) ∙ long in
-    let next : get_or (moved chains 0 (i + 1) k) (i + 1) [] ≡ c ++ take k free =
-    get_or-set_same first (i + 1) (c ++ take k free) [] (rw long hi) in
-    let size = ap length next ∙ length-append c (take k free) in
-    rw moves (omega (arith, all, hi), omega (arith, size, length-take-le k free enough, some))
+    grind (arith, length-set, get_or-set_same, length-append, length-take-le)

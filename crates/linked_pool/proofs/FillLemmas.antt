@@ -53,11 +53,7 @@ whole_set : (new : List (List ℕ)) (x : ℕ) (v : List ℕ) (c : ℕ) → x < l
     → ((c : ℕ) → c < length new → length (get_or new c []) ≡ 256) → c < length new
     → length (get_or (set new x v) c []) ≡ 256
 whole_set new x v c inside size w lt =
-    bool_cases (eqb c x)
-    (λ e. let same : x ≡ c = sym (eqb-true c x e) in
-    let here : length (get_or (set new x v) x []) ≡ 256 = rw (get_or-set_same new x v [] inside) size in
-    subst (λ (y : ℕ). length (get_or (set new x v) y []) ≡ 256) same here)
-    (λ e. rw (get_or-set_other new x c v [] (eqb-false c x e)) (w c lt))
+    grind (arith, bool_cases, eqb, eqb-true, get_or-set_same, get_or-set_other, eqb-false)
 
 pub fills_more : (chain block : List ℕ) (i : ℕ) (old new : List (List ℕ)) (piece rest : List ℕ) → i < length chain
     → ((c : ℕ) → count c chain ≤ 1) → ((c : ℕ) → 0 < count c chain → c < length new) → 256 * i ≤ length block →
@@ -219,25 +215,12 @@ append_done view chains chunks chunks' chunks'' chains' lens counts i k n first 
 
 pub first_free : (chains chunks : List (List ℕ)) (lens counts : List ℕ) (first : ℕ) → IsPool chains chunks lens counts
     → 0 < length (get_or chains 0 []) → first ≡ get_or (get_or chains 0 []) 0 0 → first < length lens
-first_free chains chunks lens counts first p has e =
-    let lists = p.lists in
-    let same = p.lens_too in
-    let there : (c : ℕ) → 0 < occurs c chains → c < length lens =
-    λ c s. bool_cases (ltb c (length chunks)) (λ z. let lt = ltb-true c (length chunks) z in omega (arith, lt, same))
-    (λ z. let none = p.within c (ltb-false c (length chunks) z) in absurd (omega (arith, none, s))) in
-    rw e (there_in chains 0 (length lens) there (omega (arith, lists)) has)
+first_free chains chunks lens counts first p has e = grind (arith, bool_cases, ltb, ltb-true, ltb-false, there_in)
 
 pub length-ref : (chains chunks : List (List ℕ)) (i offset first len : ℕ) → IsRef chains chunks i offset first len
     → len ≡ length (ref_bytes chains chunks i offset len)
 length-ref chains chunks i offset first len r =
-    let chain : List ℕ = drop offset (get_or chains i []) in
-    let all : Whole chunks (get_or chains i []) =
-    record { at = λ c s. r.whole c (r.there c (let m = occurs-at c chains i r.inside in omega (arith, m, s))) } in
-    let part =
-    length-joined chunks (take (chunks_for len) chain)
-    (whole_take chunks (chunks_for len) chain (whole_drop chunks offset (get_or chains i []) all)) in
-    let size = length-take-le (chunks_for len) chain r.enough in
-    sym (length-take-le len (joined chunks (take (chunks_for len) chain)) (omega (arith, part, size)))
+    grind (arith, Whole, occurs-at, length-joined, whole_take, whole_drop, length-take-le)
 
 -- the bytes from an offset on
 pub joined_take : (chunks : List (List ℕ)) (chain : List ℕ) (k n : ℕ) → Whole chunks chain → k ≤ length chain
@@ -254,23 +237,7 @@ joined_take chunks chain k n w le few =
 pub pieces_is : (chains chunks : List (List ℕ)) (i offset first len : ℕ) → IsRef chains chunks i offset first len →
     IsRest chains chunks i offset first len × (rest_bytes chains chunks i offset len ≡ ref_bytes chains
     chunks i offset len)
-pieces_is chains chunks i offset first len r =
-    let chain : List ℕ = drop offset (get_or chains i []) in
-    let all : Whole chunks (get_or chains i []) =
-    record { at = λ c s. r.whole c (r.there c (let m = occurs-at c chains i r.inside in omega (arith, m, s))) } in
-    let fits : len ≤ 256 * chunks_for len = omega arith in
-    let enough = r.enough in (
-      record {
-        inside = r.inside;
-        enough = omega (arith, fits, enough);
-        at = λ some. r.at;
-        there = r.there;
-        whole = r.whole;
-        few = r.few;
-      },
-      sym (joined_take chunks chain (chunks_for len) len (whole_drop chunks offset (get_or chains i []) all)
-          r.enough fits),
-    )
+pieces_is chains chunks i offset first len r = grind (arith, Whole, occurs-at, joined_take, whole_drop)
 
 -- What lending a piece does.
 pub record Lends (chains chunks : List (List ℕ)) (i offset chunk left : ℕ) (piece : List ℕ) (count : ℕ) : Type 0 where
@@ -331,8 +298,4 @@ lends chains chunks i offset chunk left count r some is =
 pub length-rest : (chains chunks : List (List ℕ)) (i offset chunk left : ℕ) → IsRest chains chunks i offset chunk left
     → left ≡ length (rest_bytes chains chunks i offset left)
 length-rest chains chunks i offset chunk left r =
-    let chain : List ℕ = get_or chains i [] in
-    let all : Whole chunks chain =
-    record { at = λ c s. r.whole c (r.there c (let m = occurs-at c chains i r.inside in omega (arith, m, s))) } in
-    let size = length-joined chunks (drop offset chain) (whole_drop chunks offset chain all) in
-    sym (length-take-le left (joined chunks (drop offset chain)) (omega (arith, size, r.enough)))
+    grind (arith, Whole, occurs-at, length-joined, whole_drop, length-take-le)

@@ -63,10 +63,7 @@ sum_within (p ∷ plps) =
 
 chunks_of_block : FieldRange → BlockChunks → (c : Config) (plp : ℕ) → chunks_for (block_bytes c plp)
     ≤ 7 * (block_cells c plp / 2025)
-chunks_of_block fields chunks c plp =
-    let h = chunks c plp in
-    let f = fields c plp in
-    omega (arith, h, f.0, f.2)
+chunks_of_block fields chunks c plp = grind arith
 
 -- a list of an interleaving frame's blocks fills no more than the chunks of its PLP
 chunks_of_list : FieldRange → BlockChunks → (c : Config) (plp : ℕ) (blocks : List (List ℕ)) → ListFits c plp blocks

@@ -58,26 +58,7 @@ pub walk_begins : (view : State) (chains chunks : List (List ℕ)) (lens lasts c
     IsWalk chains chunks lens lasts (i + 1) 0 chunk left
     × (walk_blocks chains chunks lens (i + 1) 0 left ≡ list_at view i)
 walk_begins view chains chunks lens lasts counts i chunk left e pool ends h size at =
-    let inside = list_inside view chains chunks lens counts i e pool h in
-    let lists = pool.lists in
-    let chain : List ℕ = get_or chains (i + 1) [] in
-    let used : uses lens left chain ≡ length chain = rw size (pool.used i inside) in
-    let each : Ends lens lasts left chain = rw size (ends.each i inside) in (
-      record {
-        inside = omega (arith, lists, inside);
-        lens_too = pool.lens_too;
-        lasts_too = ends.lasts_too;
-        used = used;
-        ends = each;
-        at = λ some. at (filled lens left chain some used);
-        there = λ x s. bool_cases (ltb x (length chunks)) (λ z. ltb-true x (length chunks) z)
-            (λ z. let none = pool.within x (ltb-false x (length chunks) z) in absurd (omega (arith, none, s)));
-        whole = pool.size;
-        few = (let m = all-at chains (i + 1) (omega (arith, lists, inside)) in omega
-            (arith, m, pool.all, pool.few_chunks));
-      },
-      rw size (sym (list_is view chains chunks lens counts i e pool inside)),
-    )
+    grind (arith, list_inside, filled, bool_cases, ltb, ltb-true, ltb-false, all-at, list_is)
 
 -- What the walk's next block is, and the walk behind it.
 pub record Steps (chains chunks : List (List ℕ)) (lens lasts : List ℕ) (i offset chunk left len : ℕ) : Type 0 where

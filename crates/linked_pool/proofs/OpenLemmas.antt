@@ -70,9 +70,7 @@ total-zeros (suc n) = omega (arith, total-zeros n)
 
 pub opened_chains : (n lists : ℕ) → chains_of (rising n 1) (replicate (lists + 1) 0) (set (replicate (lists + 1) 0) 0 n)
     ≡ opened n lists
-opened_chains n lists =
-    let e : lists + 1 ≡ suc lists = omega arith in
-    rw (e, walk-rising n n 0 (omega arith), chains-zeros (rising n 1) lists) refl
+opened_chains n lists = grind (arith, walk-rising, chains-zeros)
 
 pub zero_at : (n i : ℕ) → get_or {A = ℕ} (replicate n 0) i 0 ≡ 0
 zero_at zero i = refl
@@ -90,28 +88,19 @@ pub opened_sound : (n lists : ℕ) (tails : List ℕ) → n < 2 ^ 32 → length 
     → (0 < n → get_or tails 0 0 ≡ n - 1)
     → IsSound (rising n 1) (replicate (lists + 1) 0) tails (set (replicate (lists + 1) 0) 0 n)
 opened_sound n lists tails few long last =
-    let e : lists + 1 ≡ suc lists = omega arith in
-    let cs = opened_chains n lists in
-    let size : length (set (replicate (lists + 1) 0) 0 n) ≡ lists + 1 = length-set (replicate (lists + 1) 0) 0 n
-    ∙ length-replicate (lists + 1) 0 in
-    let occ : (x : ℕ) → occurs x (chains_of (rising n 1) (replicate (lists + 1) 0) (set (replicate (lists + 1) 0) 0 n))
-    ≡ count x (rising n 0) + 0 =
-    λ x. ap (occurs x) cs ∙ ap (λ (m : ℕ). count x (rising n 0) + m) (occurs-zeros x lists) in
-    let ends : (i : ℕ) → i < length (set (replicate (lists + 1) 0) 0 n)
-    → 0 < get_or (set (replicate (lists + 1) 0) 0 n) i 0
-    → get_or tails i 0 ≡ last_on (rising n 1) (get_or (set (replicate (lists + 1) 0) 0 n) i 0 - 1)
-    (get_or (replicate (lists + 1) 0) i 0) =
-    rw e (ends_of n lists tails last) in
-    record {
-      few = rw (length-rising n 1) (omega (arith, few));
-      heads_too = length-replicate (lists + 1) 0 ∙ sym size;
-      tails_too = long ∙ sym size;
-      all = rw (e, length-rising n 1) (let z = total-zeros lists in omega (arith, z));
-      apart = λ x. (let a = occ x in let b = once x n 0 in omega (arith, a, b));
-      within = λ x h. (let a = occ x in let l = length-rising n 1 in let b = above_none x n 0 (omega (arith, l, h)) in
-          omega (arith, a, b));
-      last = ends;
-    }
+    grind (
+      arith,
+      opened_chains,
+      replicate,
+      length-set,
+      length-replicate,
+      occurs-zeros,
+      ends_of,
+      length-rising,
+      total-zeros,
+      once,
+      above_none,
+    )
 
 pub opened_both : (n lists : ℕ) (next heads tails sizes : List ℕ) → n < 2 ^ 32 → next ≡ rising n 1
     → heads ≡ replicate (lists + 1) 0 → tails ≡ set (replicate (lists + 1) 0) 0 (n - 1)
@@ -147,20 +136,17 @@ pub blank_pool : (n lists : ℕ) (chains chunks : List (List ℕ)) (lens counts 
     IsPool chains chunks lens counts × ((view_of chains chunks lens counts).lists ≡ replicate lists [])
     × ((view_of chains chunks lens counts).spare ≡ n) × ((view_of chains chunks lens counts).opened ≡ n)
 blank_pool n lists chains chunks lens counts hn a b c d =
-    let bytes : List ℕ = replicate 256 0 in
-    let long : length (replicate n bytes) ≡ n = length-replicate n bytes in
-    let size : length bytes ≡ 256 = length-replicate {A = ℕ} 256 0 in
-    let occ : (x : ℕ) → occurs x (opened n lists) ≡ count x (rising n 0) + 0 =
-    λ x. ap (λ (m : ℕ). count x (rising n 0) + m) (occurs-zeros x lists) in
-    let pool : IsPool (opened n lists) (replicate n bytes) (replicate n 0) (replicate lists 0) = record {
-      lists = ap (λ (m : ℕ). suc m) (length-replicate lists [])
-          ∙ (let e = length-replicate {A = ℕ} lists 0 in omega (arith, e));
-      lens_too = length-replicate {A = ℕ} n 0 ∙ sym long;
-      few_chunks = omega (arith, long, hn);
-      apart = λ x. (let z = occ x in let o = once x n 0 in omega (arith, z, o));
-      within = λ x h. (let z = occ x in let o = above_none x n 0 (omega (arith, long, h)) in omega (arith, z, o));
-      all = (let z = all-blank lists in let r = length-rising n 0 in omega (arith, z, r, long));
-      used = λ i h. let e : i + 1 ≡ suc i = omega arith in rw (zero_at lists i, e, blank_at lists i) refl;
-      size = λ x h. let lt : x < n = rw long at h in rw (get_or-replicate n x bytes [] lt) size;
-    } in
-    rw (a, b, c, d) (pool, lists-blank (replicate n bytes) (replicate n 0) lists, length-rising n 0, long)
+    grind (
+      arith,
+      replicate,
+      length-replicate,
+      occurs-zeros,
+      once,
+      above_none,
+      all-blank,
+      length-rising,
+      zero_at,
+      blank_at,
+      get_or-replicate,
+      lists-blank,
+    )

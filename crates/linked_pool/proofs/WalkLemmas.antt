@@ -1,5 +1,5 @@
 -- Walks from chunk to chunk.
-use Rattle.std.proofs.Common.{◌≡◌, ◌≢◌, ℕ, zero, suc, ◌+◌, ◌-◌, ◌<◌, ◌≤◌, true, false, cond, eqb, List, [], ◌∷◌, ◌++◌}
+use Rattle.std.proofs.Common.{◌≡◌, ◌≢◌, ℕ, zero, suc, ◌+◌, ◌-◌, ◌<◌, ◌≤◌, true, false, eqb, List, [], ◌∷◌, ◌++◌}
 use Rattle.std.proofs.Common.{length, take, drop, get_or, set, refl, ap, sym, ◌∙◌, arith, length-set}
 use Rattle.std.proofs.lemmas.List.{get_or-set_other, take-append-drop}
 use Rattle.std.proofs.lemmas.Bool.{eqb-false, eq-eqb}
@@ -40,10 +40,7 @@ count_one x ys = rw (eqb_same x) refl
 
 -- a chunk that a list doesn't have first
 pub not_first : (x y : ℕ) (ys : List ℕ) → count x (y ∷ ys) ≡ 0 → (y ≢ x) × (count x ys ≡ 0)
-not_first x y ys h = bool_cases (eqb x y)
-    (λ e. let k : cond true 1 0 + count x ys ≡ 0 = rw e at h in absurd (omega (arith, k)))
-    (λ e. let k : cond false 1 0 + count x ys ≡ 0 = rw e at h in let n = eqb_other x y e in
-    (λ s. n (sym s), omega (arith, k)))
+not_first x y ys h = grind (arith, bool_cases, eqb, eqb_other)
 
 -- a write to a chunk that isn't passed
 pub walk-set : (next : List ℕ) (t v n first : ℕ) → count t (walk next n first) ≡ 0 → walk (set next t v) (suc n) first
@@ -175,9 +172,7 @@ count_prefix x next m n first h =
 
 pub count_suffix : (x : ℕ) (next : List ℕ) (m n first : ℕ) → count x (walk next n (last_on next m first))
     ≤ count x (walk next (m + n) first)
-count_suffix x next m n first =
-    let sum = count-append x (walk next m first) (walk next n (last_on next m first)) in
-    rw (walk_split next m n first) (omega (arith, sum))
+count_suffix x next m n first = grind (arith, count-append, walk_split)
 
 -- a write that no walk passes before its end
 pub chains_kept : (next : List ℕ) (t v : ℕ) (heads sizes : List ℕ) → length heads ≡ length sizes →
