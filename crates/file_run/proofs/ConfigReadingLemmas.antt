@@ -1,5 +1,5 @@
 -- Runs that read a configuration, step by step.
-use Rattle.std.proofs.Common.{◌≡◌, ◌⊎◌, ℕ, ◌+◌, ◌-◌, ◌<◌, ◌≤◌, min, inl, inr, ⊎_elim, List, [], ◌++◌, length, Option}
+use Rattle.std.proofs.Common.{◌≡◌, ◌⊎◌, ℕ, ◌<◌, ◌≤◌, min, inl, inr, ⊎_elim, List, [], ◌++◌, length, Option}
 use Rattle.std.proofs.Common.{Some, None, ap, sym, subst, ◌∙◌, arith, append-nil, length-append}
 use Rattle.std.specs.Prelude.{IfSome, IsSome, IfOk, IfErr, Result, option_map, option_and_then}
 use Rattle.std.specs.FinMap.{get}
@@ -34,23 +34,12 @@ front_of (Some file) (Some left) text e end = let whole : text ++ left ≡ file 
     record { left = left; whole = sym whole; end = end }
 
 front_length : (file text : List ℕ) → IsFront file text → length text ≤ 65537 → length text ≡ min (length file) 65537
-front_length file text f few =
-    let size : length file ≡ length text + length f.left = ap length f.whole ∙ length-append text f.left in
-    ⊎_elim (λ (none : f.left ≡ []). omega (arith, size, ap length none))
-    (λ (full : length text ≡ 65537). omega (arith, size, full)) f.end
+front_length file text f few = grind (arith, length-append)
 
 -- the file that was opened was read so far
 moved_by : (old mid new : State) (name : List ℕ) (handle : ℕ) (text : List ℕ) → Opens old mid name handle
     → ReadsAhead mid new handle [] text → Opened old new name (length text)
-moved_by old mid new name handle text o r =
-    let sum : 0 + (length text - 0) ≡ length text = omega arith in
-    record {
-      present = o.present;
-      held = r.held ∙ o.held;
-      opened = r.opened ∙ rw (o.opened, o.number, get_or-append_seam old.opened 0 [] 0, sum)
-          (set-append_seam old.opened 0 [] (length text));
-      created = r.created ∙ o.created;
-    }
+moved_by old mid new name handle text o r = grind (arith, get_or-append_seam, set-append_seam)
 
 -- what is left of a file that is there
 told : (held : Option Held) (name : List ℕ) (left : Option (List ℕ)) (P : List ℕ → Type 0)
@@ -90,11 +79,7 @@ text_not_read old mid new name handle text o counts r few rose = record {
 
 -- a front that is not too long is the whole file
 whole_file : (file text : List ℕ) → IsFront file text → length text ≤ 65536 → text ≡ file
-whole_file file text f fits =
-    ⊎_elim
-    (λ (none : f.left ≡ []). sym (f.whole ∙ ap (λ (left : List ℕ). text ++ left) none ∙ append-nil text))
-    (λ (full : length text ≡ 65537). absurd (omega (arith, full, fits)))
-    f.end
+whole_file file text f fits = grind (arith, append-nil)
 
 spelled_file : (file text : List ℕ) (c : Config) → IsFront file text → Spells text c → Spells file c
 spelled_file file text c f s = subst (λ (t : List ℕ). Spells t c) (whole_file file text f s.fits) s
@@ -123,11 +108,7 @@ cause_file file text (Rule rule plp) f r = (r.0, spelled_file file text r.0 f r.
 pub gives : (old new : State) (name text : List ℕ) (c : Config) → ReadsText old new name
     → IfSome old.held (λ held. IsFront (bytes_of held.files name) text) → Spells text c × AllRules c
     → Gives old new name c
-gives old new name text c r f s = record {
-  reads = r;
-  spells = IfSome_then old.held f (λ held x. spelled_file (bytes_of held.files name) text c x s.0);
-  rules = s.1;
-}
+gives old new name text c r f s = grind (arith, IfSome_then, spelled_file)
 
 -- or it gives none
 pub gives_none : (old new : State) (name text : List ℕ) (outcome : ConfigStop) → ReadsText old new name
@@ -163,9 +144,7 @@ front_read old mid new name handle waiting text bytes none same o counts r calm 
 pub front_not_read : (old mid new : State) (name : List ℕ) (handle : ℕ) (waiting text : List ℕ) → waiting ≡ []
     → Opens old mid name handle → SameCounts old mid → ReadsAhead mid new handle waiting text →
     length text < 65537 → ReadsFail old new → FailsToRead old new name
-front_not_read old mid new name handle waiting text none o counts r few rose =
-    text_not_read old mid new name handle text o counts (subst (λ (w : List ℕ). ReadsAhead mid new handle w text)
-    none r) few rose
+front_not_read old mid new name handle waiting text none o counts r few rose = grind (arith, text_not_read)
 
 -- a reading that failed
 pub reading_fails : {T E : Type 0} (old mid new : State) (result : Result T E) → SameCounts old mid

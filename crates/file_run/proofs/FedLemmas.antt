@@ -68,18 +68,7 @@ read_more : (file front taken now : List ℕ) (o n : Option (List ℕ)) (was is 
     → o ≡ option_map (λ rest. front ++ rest) n
     → now ≡ taken ++ front → ((l : List ℕ) → n ≡ Some l → is ≡ true → (was ≡ true) ⊎ (l ≡ []))
     → IsRead file o taken was → IsRead file n now is
-read_more file front taken now o n was is e f end r =
-    let l = opened_left n front r.left o e r.rest_is in
-    record {
-      left = l.0;
-      rest_is = l.1;
-      parts = r.parts ∙ ap (λ (x : List ℕ). taken ++ x) l.2 ∙ sym (append_assoc taken front l.0)
-          ∙ ap (λ (x : List ℕ). x ++ l.0) (sym f);
-      end = λ on. elim (end l.0 l.1 on) [
-        | inl before ↦ none_behind front l.0 (sym l.2 ∙ r.end before)
-        | inr none ↦ none
-      ];
-    }
+read_more file front taken now o n was is e f end r = grind (arith, opened_left, append_assoc, none_behind)
 
 pub read_here : (e : Event) (file : List ℕ) (input count : ℕ) (o n : Option (List ℕ)) (events : List Event)
     → IsTaken e input o n count → IsRead file o (fed input events) (has_ended input events)
@@ -197,11 +186,7 @@ stands_unfed Becomes m reach b old new readings input is events lt r came on non
 -- how much was read and not taken
 pub untaken : (readings : List Reading) (input fed : ℕ) (is : Reading) → input < length readings → is.taken ≡ fed
     → slice_index (places_of (slice_set readings input is)) input - fed ≡ length is.waiting
-untaken readings input fed is lt t =
-    let n = length-set readings input is in
-    let p = place_at (slice_set readings input is) input (omega (arith, n, lt))
-    ∙ ap given_of (reading_same readings input is lt) in
-    omega (arith, p, t)
+untaken readings input fed is lt t = grind (arith, length-set, place_at, reading_same)
 
 pub stops_unfed : {A : Type 0} (Becomes : List Event → A → Type 0) (m : A) (reach : A → ℕ → ℕ) (next : A
     → Step) (b : Start)

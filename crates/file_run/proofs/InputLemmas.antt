@@ -1,12 +1,12 @@
 -- Bytes that wait, when more are read behind them and when some are taken.
-use Rattle.std.proofs.Common.{◌≡◌, ◌≢◌, ◌==◌, ℕ, Bool, false, ◌+◌, ◌-◌, ◌<◌, ◌≤◌, List, [], ◌∷◌, ◌++◌, length, take}
-use Rattle.std.proofs.Common.{drop, Option, Some, None, refl, ap, sym, subst, ◌∙◌, arith, append_assoc}
+use Rattle.std.proofs.Common.{◌≡◌, ◌≢◌, ℕ, Bool, false, ◌+◌, ◌-◌, ◌<◌, ◌≤◌, List, [], ◌∷◌, ◌++◌, length, take}
+use Rattle.std.proofs.Common.{drop, Option, Some, None, refl, ap, sym, ◌∙◌, arith, append_assoc}
 use Rattle.std.specs.Prelude.{IfSome, option_map, slice_index, slice_index_or, slice_set}
 use Rattle.std.proofs.lemmas.List.{drop-take, drop-drop, length-append, length-take-le, set-get_or, get_or-set_other}
 use Rattle.std.proofs.lemmas.List.{take-take, take-append-le}
 use Rattle.std.proofs.lemmas.Option.{IfSome_then}
 use Rattle.terms.proofs.PartLemmas.{part-add}
-use Rattle.ports.specs.Desk.{State, Held, Keeps, Reads, content, left_of, has_run_out}
+use Rattle.ports.specs.Desk.{State, Keeps, Reads, left_of, has_run_out}
 use Rattle.file_run.specs.Ahead.{ReadsAhead, IsAtEnd}
 use Rattle.file_run.specs.Waiting.{part_in}
 use Rattle.file_run.specs.declared.input.Span.{Span}
@@ -41,9 +41,7 @@ still_front xs ys n len h k = take-take n len (xs ++ ys) k ∙ take-append-le n 
 pub reads_as : (s t : State) (handle : ℕ) (was now : Span) (old new old' new' : List ℕ) → old ≡ old' → new ≡ new'
     → ReadsAhead s t handle (part_in was old) (part_in now new)
     → ReadsAhead s t handle (part_in was old') (part_in now new')
-reads_as s t handle was now old new old' new' e f r =
-    subst (λ (l : List ℕ). ReadsAhead s t handle (part_in was l) (part_in now new')) e
-    (subst (λ (l : List ℕ). ReadsAhead s t handle (part_in was old) (part_in now l)) f r)
+reads_as s t handle was now old new old' new' e f r = grind arith
 
 -- more bytes behind those that wait
 pub grown : {X : Type 0} (old new : List X) (start end n : ℕ) → start ≤ end → take end new ≡ take end old →
@@ -63,9 +61,7 @@ joined (Some l) waiting piece = ap Some (append_assoc waiting piece l)
 other_end : (old new : State) (handle n : ℕ) (buffer : List ℕ) → Reads old new handle n buffer → (other : ℕ)
     → other ≢ handle
     → has_run_out new other ≡ has_run_out old other
-other_end old new handle n buffer r other apart =
-    ap (λ (l : List Bool). slice_index_or l other false) r.ended ∙ get_or-set_other old.ended handle
-    other (n == 0) false apart
+other_end old new handle n buffer r other apart = grind (arith, get_or-set_other)
 
 -- a read went on
 pub reads_on : (old new : State) (handle n : ℕ) (buffer waiting more : List ℕ) → Reads old new handle n buffer
@@ -88,9 +84,7 @@ reads_on old new handle n buffer waiting more r inside is =
     }
 
 pub left_kept : (old new : State) (handle : ℕ) → Keeps old new → left_of new handle ≡ left_of old handle
-left_kept old new handle k =
-    ap (λ (o : Option Held). option_map (λ h. drop (slice_index new.opened handle) (content h handle)) o) k.held
-    ∙ ap (λ (xs : List ℕ). option_map (λ h. drop (slice_index xs handle) (content h handle)) old.held) k.opened
+left_kept old new handle k = grind (arith, Option)
 
 -- a failed read changed nothing
 pub reads_not : (old new : State) (handle : ℕ) (waiting more : List ℕ) → handle < length old.opened → Keeps old new
@@ -123,18 +117,8 @@ end_after left (Some l) piece e h = let all : piece ++ l ≡ [] = rw e at h in n
 -- a read of no bytes shows the end of the file
 pub at_end : (old new : State) (handle n : ℕ) (buffer : List ℕ) → Reads old new handle n buffer → n ≡ 0
     → IsAtEnd new handle
-at_end old new handle n buffer r none =
-    end_after (left_of old handle) (left_of new handle) (take n buffer) r.next
-    (IfSome_then (left_of old handle) r.end (λ left both. both.0 none))
+at_end old new handle n buffer r none = grind (arith, end_after, IfSome_then)
 
 pub reads_same : (s : State) (handle : ℕ) (waiting : List ℕ) → handle < length s.opened
     → ReadsAhead s s handle waiting waiting
-reads_same s handle waiting came =
-    reads_not s s handle waiting waiting came (record {
-      held = refl;
-      said = refl;
-      opened = refl;
-      ended =
-          refl;
-      created = refl;
-    }) refl
+reads_same s handle waiting came = search (arith, reads_not)

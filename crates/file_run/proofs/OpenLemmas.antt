@@ -1,5 +1,5 @@
 -- Opening the inputs of a run and beginning its output.
-use Rattle.std.proofs.Common.{◌≡◌, ℕ, zero, suc, ◌+◌, ◌<◌, ◌≤◌, Bool, true, false, List, [], ◌∷◌, ◌++◌, length, take}
+use Rattle.std.proofs.Common.{◌≡◌, ℕ, zero, suc, ◌+◌, ◌<◌, Bool, true, false, List, [], ◌∷◌, ◌++◌, length, take}
 use Rattle.std.proofs.Common.{Option, Some, None, refl, ap, sym, subst, ◌∙◌, inl, inr, arith, append_assoc, append-nil}
 use Rattle.std.proofs.Common.{length-append}
 use Rattle.std.specs.Prelude.{IsSome, slice_index_or, slice_set, option_map, option_and_then}
@@ -8,9 +8,6 @@ use Rattle.std.proofs.lemmas.Bool.{cases_eq}
 use Rattle.std.proofs.lemmas.List.{length-map, length-take-le, get_or-take, get_or-map, map-append, length_push}
 use Rattle.std.proofs.lemmas.List.{get_or_push, get_or_append_left, take_more, take_more_set}
 use Rattle.terms.proofs.OptionLemmas.{was_some}
-use Rattle.ports.specs.declared.counts.Counts.{Counts}
-use Rattle.ports.specs.declared.fault.FaultKind.TheVariants as kind
-use Rattle.ports.specs.Counts.{Rose, first_of}
 use Rattle.ports.specs.Desk.{State, Held, Files, SameCounts, Keeps, Opens, FailsToCreate, with_name, left_of, bytes_of}
 use Rattle.ports.specs.Desk.{SameButFor, has_run_out}
 use Rattle.file_run.specs.Faults.{ReadsFail, WritesFail}
@@ -26,20 +23,10 @@ use Rattle.file_run.proofs.SinkLemmas.{some_is, of_some, begins_at, holds_first,
 
 -- counts that only rose since then
 pub reads_fail : (a b c : State) → SameCounts a b → ReadsFail b c → ReadsFail a c
-reads_fail a b c e f = record {
-  rose = subst (λ (k : Counts). Rose k.reads c.counts.reads) e f.rose;
-  first = subst (λ (k : Counts). c.counts.first ≡ first_of k.first kind.Reading) e f.first;
-  later = subst (λ (k : Counts). k.reads ≤ c.counts.reads) e f.later;
-  others = subst (λ (k : Counts). c.counts ≡ record k { reads = c.counts.reads; first = c.counts.first }) e f.others;
-}
+reads_fail a b c e f = grind arith
 
 pub writes_fail : (a b c : State) → SameCounts a b → WritesFail b c → WritesFail a c
-writes_fail a b c e f = record {
-  rose = subst (λ (k : Counts). Rose k.writes c.counts.writes) e f.rose;
-  first = subst (λ (k : Counts). c.counts.first ≡ first_of k.first kind.Writing) e f.first;
-  later = subst (λ (k : Counts). k.writes ≤ c.counts.writes) e f.later;
-  others = subst (λ (k : Counts). c.counts ≡ record k { writes = c.counts.writes; first = c.counts.first }) e f.others;
-}
+writes_fail a b c e f = grind arith
 
 -- nothing is opened yet
 pub none_opened : (s : State) → AreOpened s s [] []

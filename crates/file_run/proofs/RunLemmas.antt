@@ -1,6 +1,6 @@
 -- A run goes on by one step, and how it stands.
 use Rattle.std.proofs.Common.{◌≡◌, ◌≢◌, ℕ, ◌+◌, ◌-◌, ◌<◌, ◌≤◌, Bool, false, List, [], ◌++◌, length, Option, Some, None}
-use Rattle.std.proofs.Common.{refl, ap, sym, subst, ◌∙◌, inl, inr, arith, length-append, append-nil}
+use Rattle.std.proofs.Common.{refl, ap, sym, subst, ◌∙◌, arith, length-append, append-nil}
 use Rattle.std.specs.Prelude.{IsSome, slice_index, slice_index_or, slice_set, option_map}
 use Rattle.std.specs.FinMap.{get}
 use Rattle.std.proofs.lemmas.Bool.{cases_eq}
@@ -53,13 +53,7 @@ pub each_reader : (P : ℕ → Reading → Type 0) (readings : List Reading) (in
     → (other : ℕ) → other < length (slice_set readings input is)
     → P other (reading_at (slice_set readings input is) other)
 each_reader P readings input is lt here others other inside =
-    let was : other < length readings = let e = length-set readings input is in omega (arith, e, inside) in
-    elim (cases_eq other input) [
-      | inl same ↦ subst (λ (k : ℕ). P k (reading_at (slice_set readings input is) k)) (sym same)
-          (subst (λ (r : Reading). P input r) (sym (reading_same readings input is lt)) here)
-      | inr differ ↦ subst (λ (r : Reading). P other r) (sym (reading_other readings input other is differ))
-          (others other was differ)
-    ]
+    grind (arith, length-set, cases_eq, reading_same, reading_other)
 
 -- the output is as it was if what the desk holds is
 held_out : (b : Start) (h : Held) (old new : State) (bytes : List ℕ) → new.held ≡ old.held → HoldsOut b h old bytes
@@ -91,9 +85,7 @@ pub other_left : (b : Start) (old new : State) (readings : List Reading) (input 
     → input < length readings → other < length readings → other ≢ input
     → Reached b old readings bytes → ReadsOn old new (reading_at readings input) is
     → left_of new (reading_at readings other).handle ≡ left_of old (reading_at readings other).handle
-other_left b old new readings input other is bytes lt inside differ g r =
-    r.others (reading_at readings other).handle
-    (λ e. differ (let a = g.handles input lt in let o = g.handles other inside in omega (arith, a, o, e)))
+other_left b old new readings input other is bytes lt inside differ g r = grind arith
 
 -- and is at its end only if it was
 pub other_end : (b : Start) (old new : State) (readings : List Reading) (input other : ℕ) (is : Reading)
@@ -101,9 +93,7 @@ pub other_end : (b : Start) (old new : State) (readings : List Reading) (input o
     → input < length readings → other < length readings → other ≢ input
     → Reached b old readings bytes → ReadsOn old new (reading_at readings input) is
     → has_run_out new (reading_at readings other).handle ≡ has_run_out old (reading_at readings other).handle
-other_end b old new readings input other is bytes lt inside differ g r =
-    r.others_end (reading_at readings other).handle
-    (λ e. differ (let a = g.handles input lt in let o = g.handles other inside in omega (arith, a, o, e)))
+other_end b old new readings input other is bytes lt inside differ g r = grind arith
 
 -- More went out.
 held_on : (b : Start) (h : Held) (old new : State) (bytes front : List ℕ) → HoldsOut b h old bytes
@@ -275,22 +265,13 @@ stands b now readings reach events Came r came =
 -- A machine was drained.
 pub read_same : (file : List ℕ) (o p : Option (List ℕ)) (taken more : List ℕ) (ended now : Bool) → p ≡ o → more ≡ taken
     → now ≡ ended → IsRead file o taken ended → IsRead file p more now
-read_same file o p taken more ended now e f h r =
-    record {
-      left = r.left;
-      rest_is = e ∙ r.rest_is;
-      parts = r.parts ∙ ap (λ (l : List ℕ). l ++ r.left) (sym f);
-      end = λ on.
-          r.end (sym h ∙ on);
-    }
+read_same file o p taken more ended now e f h r = grind arith
 
 -- the places of readers of which each is short
 pub all_short : (readings : List Reading)
     → ((input : ℕ) → input < length readings → given_of (reading_at readings input) < longest_file)
     → AllShort (places_of readings)
-all_short readings short input lt =
-    let inside : input < length readings = let n = length-map readings given_of in omega (arith, lt, n) in
-    let p = place_at readings input inside in let s = short input inside in omega (arith, p, s)
+all_short readings short input lt = grind (arith, length-map, place_at)
 
 relates_on : (b : Start) (h : Held) (old new : State) (readings : List Reading) (reach : ℕ
     → ℕ) (events late : List Event)

@@ -44,25 +44,12 @@ none_waits said events = record { few = omega arith; since = inl refl }
 fed_since : (said : List ℕ) (events : List Event) (e : Event)
     → ((after : List Event) → gave (after ++ e ∷ []) ≡ gave after)
     → HadRoom said events → HadRoom said (events ++ e ∷ [])
-fed_since said events e none h = record {
-  before = h.before;
-  piece = h.piece;
-  after = h.after ++ e ∷ [];
-  parts = ap (λ (l : List Event). l ++ e ∷ []) h.parts ∙ append_assoc h.before (Gave h.piece ∷ h.after) (e ∷ []);
-  last = none h.after ∙ h.last;
-  waiting = h.waiting;
-  waited = h.waited;
-  room = h.room;
-  pages = h.pages;
-}
+fed_since said events e none h = grind (arith, append_assoc)
 
 still_waits : (said unsaid : List ℕ) (events : List Event) (e : Event)
     → ((after : List Event) → gave (after ++ e ∷ []) ≡ gave after)
     → MayWait said unsaid events → MayWait said unsaid (events ++ e ∷ [])
-still_waits said unsaid events e none w = record {
-  few = w.few;
-  since = elim w.since [ inl all ↦ inl all | inr room ↦ inr (fed_since said events e none room) ];
-}
+still_waits said unsaid events e none w = grind (arith, fed_since)
 
 -- a piece went onto the page, for which there was room, and the machine gave then or nothing was said
 grown : {A : Type 0} (Becomes : A → List Event → A → Type 0) (next : A → Step) (begin old new : A) (start now : State)

@@ -4,7 +4,6 @@ use Rattle.std.proofs.Common.{Err, Option, Some, None}
 use Rattle.std.specs.Prelude.{Result, IfErr, OnOk}
 use Rattle.ports.specs.declared.counts.Counts.{Counts}
 use Rattle.ports.specs.declared.fault.FaultKind.{FaultKind}
-use Rattle.ports.specs.declared.fault.FaultKind.TheVariants as kind
 use Rattle.ports.specs.Counts.{Rose, first_of}
 use Rattle.ports.specs.Desk.{State, SameCounts, Keeps}
 use Rattle.file_run.specs.Faults.{ReadsFail, WritesFail}
@@ -95,31 +94,11 @@ first_stays (Some first) one later = refl
 
 -- Reading failed, and then what was left was said.
 fails_said : (start old new : State) → ReadsFail start old → SameCounts old new → ReadsFailAtLeast start new
-fails_said start old new f same =
-    let reads : new.counts.reads ≡ old.counts.reads = ap (λ (k : Counts). k.reads) same in
-    let writes : new.counts.writes ≡ start.counts.writes = ap (λ (k : Counts). k.writes) same
-    ∙ ap (λ (k : Counts). k.writes) f.others in
-    record {
-      rose = subst (Rose start.counts.reads) (sym reads) f.rose;
-      first = ap (λ (k : Counts). k.first) same ∙ f.first;
-      reads = (let l = f.later in omega (arith, l, reads));
-      writes = omega (arith, writes);
-      lines = ap (λ (k : Counts). k.lines) same ∙ ap (λ (k : Counts). k.lines) f.others;
-    }
+fails_said start old new f same = grind arith
 
 -- Reading failed, and then saying what was left.
 fails_twice : (start old new : State) → ReadsFail start old → WritesFail old new → ReadsFailAtLeast start new
-fails_twice start old new f w =
-    let reads : new.counts.reads ≡ old.counts.reads = ap (λ (k : Counts). k.reads) w.others in
-    let writes : old.counts.writes ≡ start.counts.writes = ap (λ (k : Counts). k.writes) f.others in
-    record {
-      rose = subst (Rose start.counts.reads) (sym reads) f.rose;
-      first = w.first ∙ ap (λ (k : Option FaultKind). first_of k kind.Writing) f.first
-          ∙ first_stays start.counts.first kind.Reading kind.Writing;
-      reads = (let l = f.later in omega (arith, l, reads));
-      writes = (let l = w.later in omega (arith, l, writes));
-      lines = ap (λ (k : Counts). k.lines) w.others ∙ ap (λ (k : Counts). k.lines) f.others;
-    }
+fails_twice start old new f w = grind (arith, Option, first_stays)
 
 -- what waits in front of the machine
 waits : {A : Type 0} (Came : List Event → A → Type 0) (next : A → Step) (start now : State) (name : List ℕ)

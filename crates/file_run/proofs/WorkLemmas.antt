@@ -30,19 +30,7 @@ none_more n e = ap (λ (k : ℕ). replicate {A = ℕ} k 0) e
 
 made_fed : (inputs : ℕ) (places : List ℕ) (events : List Event) → AreTaken inputs places events
     → AreFed inputs (made places events) places events
-made_fed inputs places events taken input lt =
-    let t = taken input lt in
-    let few = t.0 in
-    let more : ℕ = slice_index places input - length (fed input events) in
-    record {
-      more = replicate {A = ℕ} more 0;
-      parts = refl;
-      ahead = few;
-      within = (let n = length-append (fed input events) (replicate {A = ℕ} more 0) in let m = length-replicate
-          {A = ℕ} more 0 in
-          omega (arith, few, n, m));
-      end = λ on. none_more more (let e = t.1 on in omega (arith, e));
-    }
+made_fed inputs places events taken input lt = grind (arith, length-append, length-replicate, none_more)
 
 -- If all inputs ended, each was read to its end.
 pub are_whole : (inputs : ℕ) (files : ℕ → List ℕ) (places : List ℕ) (events : List Event) → length places ≡ inputs

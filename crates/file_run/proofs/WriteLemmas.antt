@@ -85,29 +85,11 @@ apart_then out handle (Some h) b o p =
     subst (λ (held : Option Held). IfSome held (λ k. IsApart held handle (out_name k out))) (sym o.1) there
 
 pub appends_none : (s : State) (out : ℕ) → Appends s s out []
-appends_none s out = record {
-  held = only_same out s.held;
-  said = refl;
-  opened = refl;
-  ended = refl;
-  created = refl;
-  behind = behind_none (written_of s out);
-  there = λ was. was;
-  others = λ handle apart. refl;
-}
+appends_none s out = search (arith, only_same, behind_none)
 
 pub appends_written : (old new : State) (out : ℕ) (bytes : List ℕ) → Writes old new out bytes
     → Appends old new out bytes
-appends_written old new out bytes w = record {
-  held = only_written out bytes old.held new.held w.held;
-  said = w.said;
-  opened = w.opened;
-  ended = w.ended;
-  created = w.created;
-  behind = w.behind;
-  there = λ _. there_written out bytes old.held new.held w.held;
-  others = w.others;
-}
+appends_written old new out bytes w = grind (arith, only_written, there_written)
 
 pub appends_then : (a b c : State) (out : ℕ) (x y : List ℕ) → Appends a b out x → Appends b c out y
     → Appends a c out (x ++ y)
@@ -124,27 +106,12 @@ appends_then a b c out x y p q = record {
 
 -- after a fault the state is as it was
 pub appends_kept : (a b c : State) (out : ℕ) (x : List ℕ) → Appends a b out x → Keeps b c → Appends a c out x
-appends_kept a b c out x p k =
-    let written : written_of c out ≡ written_of b out = rw k.held refl in
-    record {
-      held = subst (OnlyOut out a.held) (sym k.held) p.held;
-      said = k.said ∙ p.said;
-      opened = k.opened ∙ p.opened;
-      ended = k.ended ∙ p.ended;
-      created = k.created ∙ p.created;
-      behind = written ∙ p.behind;
-      there = λ was. subst (λ (o : Option Held). IfSome o (λ h. IsSome (get h.files (out_name h out)))) (sym k.held)
-          (p.there was);
-      others = λ handle apart. left_kept b c handle k ∙ p.others handle apart;
-    }
+appends_kept a b c out x p k = grind (arith, Option, left_kept)
 
 -- one more write of a piece
 pub more_written : (a b c : State) (out : ℕ) (piece : List ℕ) (m n : ℕ) → Appends a b out (take m piece)
     → Writes b c out (take n (drop m piece)) → Appends a c out (take (m + n) piece)
-more_written a b c out piece m n p w =
-    subst (Appends a c out) (sym (take-add m n piece))
-    (appends_then a b c out (take m piece) (take n (drop m piece)) p (appends_written b c out (take n (drop m piece))
-    w))
+more_written a b c out piece m n p w = search (arith, take-add, appends_then, appends_written)
 
 some_left : (piece : List ℕ) (m : ℕ) → m < length piece → drop m piece ≢ []
 some_left piece m lt e = let n = ap length e in omega (arith, n, lt, length-drop m piece)
