@@ -12,7 +12,7 @@ use Rattle.plp_config.specs.Rules.{SpreadDivides}
 use Rattle.plp_config.specs.Plps.{plp_at, spread}
 use Rattle.plp_config.specs.declared.config.Config.{Config}
 use Rattle.scheduler.specs.Shape.{FrameShape, in_type2, cells_of}
-use Rattle.cell_map.specs.Address.{IsCell, IsCarried, position_of, part_of, first_position, address_of}
+use Rattle.cell_map.specs.Address.{IsCell, IsCarried, position_of, first_position, address_of}
 use Rattle.cell_map.specs.Laws.{CarriedOnce, PartsRepeat}
 use Rattle.cell_map.specs.Slices.{slices_of}
 use Rattle.cell_map.proofs.PlanLemmas.{plan_row, sub_slices-some}
@@ -53,28 +53,17 @@ pub record At (c : Config) (shape : FrameShape) (frame j b q k t : ℕ) : Type 0
 -- the slices have the cells of the frame
 pub cut_of : (c : Config) (shape : FrameShape) (j : ℕ) → IsPlan c → j < length c.plps
     → (slices_of c shape j).count * (slices_of c shape j).len ≡ cells_of c shape.counts j
-cut_of c shape j is h =
-    let r = plan_row c j is h in
-    cut_by_kind (in_type2 c j) (slice_index shape.counts j) (block_cells c j) c.sub_slices (spread c.plps j)
-    (sub_slices-some c is) r.wide r.parts
+cut_of c shape j is h = grind (arith, plan_row, cut_by_kind, sub_slices-some)
 
 -- and the frames those of the interleaving frame
 pub frames_of : (c : Config) (shape : FrameShape) (j : ℕ) → IsPlan c → j < length c.plps
     → spread c.plps j * cells_of c shape.counts j ≡ slice_index shape.counts j * block_cells c j
-frames_of c shape j is h =
-    let r = plan_row c j is h in
-    cut_whole (slice_index shape.counts j) (block_cells c j) (spread c.plps j) r.wide r.whole
+frames_of c shape j is h = grind (arith, plan_row, cut_whole)
 
 -- the positions that a frame carries are all there
 pub part_inside : (c : Config) (shape : FrameShape) (frame j : ℕ) → IsPlan c → j < length c.plps
     → first_position c shape frame j + cells_of c shape.counts j ≤ slice_index shape.counts j * block_cells c j
-part_inside c shape frame j is h =
-    let part : ℕ = part_of c frame j in
-    let few : part < spread c.plps j = mod_below frame (spread c.plps j) (plan_row c j is h).wide in
-    let most : (part + 1) * cells_of c shape.counts j ≤ spread c.plps j * cells_of c shape.counts j =
-    mul-le (part + 1) (cells_of c shape.counts j) (spread c.plps j) (cells_of c shape.counts j) (omega arith)
-    (omega arith) in
-    omega (arith, most, frames_of c shape j is h)
+part_inside c shape frame j is h = grind (arith, mod_below, plan_row, mul-le, frames_of)
 
 pub at_place : (c : Config) (shape : FrameShape) (frame j b q k t : ℕ) → k < (slices_of c shape j).count
     → t < (slices_of c shape j).len
@@ -119,11 +108,7 @@ carried_place c shape frame j b q is it =
 pub is_carried_at : (c : Config) (shape : FrameShape) (frame j b q z : ℕ) → IsCell c shape j b q
     → z < cells_of c shape.counts j
     → position_of c shape j b q ≡ first_position c shape frame j + z → IsCarried c shape frame j b q
-is_carried_at c shape frame j b q z there inside e = record {
-  there = there;
-  carried = ap (λ (p : ℕ). p / cells_of c shape.counts j) e
-      ∙ div-mul-add (part_of c frame j) (cells_of c shape.counts j) z inside;
-}
+is_carried_at c shape frame j b q z there inside e = grind (arith, div-mul-add)
 
 pub at_of_cell : (c : Config) (shape : FrameShape) (frame j b q : ℕ) → IsPlan c → IsCarried c shape frame j b q
     → (k : ℕ) × ((t : ℕ) × At c shape frame j b q k t)
@@ -162,9 +147,7 @@ cell_of_at c shape frame j k t is h hk ht =
 pub one_cell : (c : Config) (shape : FrameShape) (frame j b q d r k t : ℕ) → IsPlan c → IsCell c shape j b q
     → IsCell c shape j d r
     → At c shape frame j b q k t → At c shape frame j d r k t → (b ≡ d) × (q ≡ r)
-one_cell c shape frame j b q d r k t is x y ax ay =
-    position_one (block_cells c j) (plp_at c.plps j).interleave (slice_index shape.counts j) b q d r
-    (plan_row c j is x.configured).fifth x.sent x.within y.sent y.within (ax.place ∙ sym ay.place)
+one_cell c shape frame j b q d r k t is x y ax ay = grind (arith, position_one, plan_row)
 
 -- each cell is carried in one frame of its interleaving frame
 pub carried_once : CarriedOnce

@@ -20,24 +20,7 @@ pub row_is : (c : Config) (plp cells blocks interleave slices wide : ℕ) → Is
     → cells ≡ block_cells c plp → blocks ≡ (plp_at c.plps plp).blocks → interleave ≡ (plp_at c.plps plp).interleave
     → slices ≡ slice_count c plp → wide ≡ spread c.plps plp
     → IsRow c plp (record { cells = cells; blocks = blocks; interleave = interleave; slices = slices; spread = wide })
-row_is c plp cells blocks interleave slices wide is h e f g k m =
-    let r = plan_row c plp is h in
-    record {
-      cells = e;
-      blocks = f;
-      interleave = g;
-      slices = k;
-      spread-is = m;
-      fifth = rw e (r.fifth);
-      least = omega (arith, e, r.least);
-      greatest = omega (arith, e, r.greatest);
-      few = omega (arith, f, r.few);
-      short = omega (arith, g, r.interleave);
-      some = omega (arith, k, r.one);
-      most = omega (arith, k, r.most);
-      wide = omega (arith, m, r.wide);
-      whole = rw (e, m) r.whole;
-    }
+row_is c plp cells blocks interleave slices wide is h e f g k m = grind (arith, plan_row)
 
 -- the address of a cell by its place among those of its PLP in the frame
 pub record AddressIs (c : Config) (shape : FrameShape) (frame plp block cell place : ℕ) : Type 0 where
@@ -100,10 +83,7 @@ pub computes_single : (c : Config) (shape : FrameShape) (frame plp block cell : 
     → it.row.slices ≡ 1
     → (start + place ≡ address_of c shape frame plp block cell) × (start + place < c.cells)
 computes_single c shape frame plp block cell it start place is passes there in_frame e f one =
-    let a = address_is c shape frame plp block cell is there in
-    let same : start + place ≡ address_of c shape frame plp block cell =
-    rw (e, f) (a.single (sym in_frame.row.slices ∙ one)) in
-    (same, omega (arith, same, passes.below frame plp block cell there))
+    grind (arith, address_is)
 
 -- one PLP more: its blocks are counted
 pub counted : (counts : List ℕ) (plp before count : ℕ) → plp < length counts → before ≡ sum (take plp counts)

@@ -4,11 +4,10 @@ use Rattle.std.proofs.Common.{[], ◌∷◌}
 use Rattle.std.proofs.Common.{◌++◌, ◌/◌, Option, Some, None, length, map, filter, eq-eqb, refl, ap, sym, ◌∙◌, subst}
 use Rattle.std.proofs.Common.{arith}
 use Rattle.std.specs.Prelude.{slice_index, IfNone, IfSome}
-use Rattle.std.specs.Cmp.{nat_cmp_total, nat_cmp_is}
+use Rattle.std.specs.Cmp.{nat_cmp_total}
 use Rattle.std.specs.FinMap.{find, get, get-from_entries}
 use Rattle.std.specs.List.{flat_map, range_with_len}
 use Rattle.std.specs.Ordering.{nat_cmp, is_eq}
-use Rattle.std.specs.declared.cmp.Ordering.TheVariants.{Less, Equal, Greater}
 use Rattle.std.proofs.lemmas.Bool.{cases_eq, cases_lt, eqb-true}
 use Rattle.plp_config.specs.Capacity.{block_cells}
 use Rattle.plp_config.specs.declared.config.Config.{Config}
@@ -138,21 +137,10 @@ has-pair c shape frame plp block cell it =
 
 -- a test of keys
 keys_equal : (a b : ℕ) → is_eq (nat_cmp a b) ≡ true → a ≡ b
-keys_equal a b h =
-    elim (cases_eq a b) [
-      | inl same ↦ same
-      | inr differ ↦ elim (cases_lt a b) [
-        | inl less ↦ (let e : is_eq Less ≡ true = ap is_eq (nat_cmp_is a b Less less)
-            ∙ h in let never : false ≡ true = e in cc)
-        | inr more ↦ (let e : is_eq Greater ≡ true = ap is_eq (nat_cmp_is a b Greater (omega arith)) ∙ h in
-            let never : false ≡ true = e in cc)
-      ]
-    ]
+keys_equal a b h = grind (arith, cases_eq, cases_lt)
 
 keys_differ : (a b : ℕ) → is_eq (nat_cmp a b) ≡ false → ¬ (b ≡ a)
-keys_differ a b h e = let same : is_eq Equal ≡ false = ap is_eq (nat_cmp_is a b Equal (sym e))
-    ∙ h in let never : true ≡ false =
-    same in cc
+keys_differ a b h e = grind arith
 
 find-none : (key : ℕ) (es : Entries) → Each (λ e. ¬ (e.0 ≡ key)) es → find nat_cmp key es ≡ None
 unfolding Each
@@ -227,10 +215,7 @@ find-each P key v (e ∷ es) h is =
     (λ t. find-each P key v es h.1 (sym (ap (λ (b : Bool). cond b (Some e.1) (find nat_cmp key es)) t) ∙ is))
 
 pub map_has_each : MapHasEachCell
-map_has_each c shape frame plp block cell passes there =
-    get-found c shape frame (address_of c shape frame plp block cell)
-    (record { ordinal = ordinal_of shape plp block; cell = cell }) passes
-    (record { plp = plp; block = block; there = there; value = refl; ordinal = refl })
+map_has_each c shape frame plp block cell passes there = search (arith, get-found)
 
 pub map_has_only : MapHasOnlyCells
 unfolding cell_map
@@ -241,12 +226,4 @@ map_has_only c shape frame address found is =
     (sym (get-from_entries nat_cmp_total (pairs c shape frame) address) ∙ is)
 
 pub dummy_has_none : DummyHasNoCell
-dummy_has_none c shape frame address passes = (
-  λ is plp block cell there here.
-      let found =
-      subst (λ (a : ℕ). get (cell_map c shape frame) a ≡ Some
-      (record { ordinal = ordinal_of shape plp block; cell = cell })) here
-      (map_has_each c shape frame plp block cell passes there) in
-      let never : None ≡ Some (record { ordinal = ordinal_of shape plp block; cell = cell }) = sym is ∙ found in cc,
-  λ none. get-none c shape frame address none,
-)
+dummy_has_none c shape frame address passes = grind (arith, map_has_each, get-none)

@@ -1,7 +1,7 @@
 -- Where slices meet.
 use Rattle.std.proofs.Common.{◌≡◌, ℕ, ◌+◌, ◌-◌, ◌*◌, ◌/◌, ◌%◌, ◌<◌, ◌≤◌, ◌↔◌, ◌≢◌, ◌⊎◌, ⊎_elim, inl, inr, min, Bool}
 use Rattle.std.proofs.Common.{true, false}
-use Rattle.std.proofs.Common.{ltb, IsTrue, ap, sym, ◌∙◌, subst, arith}
+use Rattle.std.proofs.Common.{ltb, IsTrue, ap, sym, ◌∙◌, arith}
 use Rattle.std.proofs.lemmas.Bool.{lt-ltb, ltb-true, ltb-false}
 use Rattle.std.proofs.lemmas.Nat.{div-add-mod', mod_below, mul-le, le-div, div-mul-add, mod-mul-add}
 use Rattle.cell_map.specs.declared.slices.Slices.{Slices}
@@ -9,27 +9,13 @@ use Rattle.cell_map.specs.Slices.{SliceMeets, SlicesMeet}
 use Rattle.terms.proofs.CaseLemmas.{bool_cases}
 
 pub last_below : (x interval last : ℕ) → last ≤ x / interval → last * interval ≤ x
-last_below x interval last h =
-    let all = div-add-mod' x interval in
-    let m : last * interval ≤ x / interval * interval = mul-le last interval (x / interval) interval h (omega arith) in
-    omega (arith, all, m)
+last_below x interval last h = grind (arith, div-add-mod', mul-le)
 
 -- the last slice that begins before the interval's end decides
 pub meets_law : (start len : ℕ) (s : Slices) (interval last : ℕ) → 0 < interval → 0 < s.count → s.start < start + len →
     last ≡ min (s.count - 1) ((start + len - s.start - 1) / interval) →
     IsTrue (ltb start (s.start + last * interval + s.len)) ↔ SliceMeets start len s interval
-meets_law start len s interval last some has far e =
-    let x : ℕ = start + len - s.start - 1 in
-    let low : last ≤ x / interval = omega arith in
-    let m = last_below x interval last low in (
-      λ b. let lt = ltb-true start (s.start + last * interval + s.len) b in (last, omega arith, (lt, omega (arith, m))),
-      λ (k, below, meets).
-          let upto : k * interval ≤ x = omega (arith, meets.1) in
-          let quotient : k ≤ x / interval = le-div k x interval some upto in
-          let most : k ≤ last = omega arith in
-          let product : k * interval ≤ last * interval = mul-le k interval last interval most (omega arith) in
-          lt-ltb start (s.start + last * interval + s.len) (omega (arith, meets.0, product)),
-    )
+meets_law start len s interval last some has far e = grind (arith, last_below, ltb-true, le-div, mul-le, lt-ltb)
 
 -- two slices meet where the first of the one meets one of the other's: shift both back by the smaller number
 pub meet_shifted : (a b : Slices) (interval : ℕ) → SlicesMeet a b interval → SliceMeets a.start a.len b interval
@@ -62,11 +48,7 @@ meet_law a b interval first second ha hb f none g = (
 
 pub parts_of : (interval k t rest : ℕ) → t < interval → k * interval + t ≡ rest → (rest / interval ≡ k)
     × (rest % interval ≡ t)
-parts_of interval k t rest h e = (
-  ap (λ (n : ℕ). n / interval) (sym e) ∙ div-mul-add k interval t h,
-  ap (λ (n : ℕ). n % interval) (sym e)
-      ∙ mod-mul-add k interval t h,
-)
+parts_of interval k t rest h e = grind (arith, div-mul-add, mod-mul-add)
 
 pub no_place : (start len count interval address : ℕ) → (count ≡ 1) ⊎ (len ≤ interval) → count ≢ 1 → start ≤ address →
     (count ≤ (address - start) / interval) ⊎ (len ≤ (address - start) % interval) →
@@ -83,21 +65,7 @@ no_place start len count interval address apart many low out k t hk ht e =
 pub later : (len count interval rest k t : ℕ) → len ≤ interval → (count ≤ rest / interval) ⊎ (len ≤ rest % interval)
     → k < count → t < len → rest ≤ k * interval + t → rest / interval < k
 later len count interval rest k t long out hk ht far =
-    let s : ℕ = rest / interval in
-    let all : s * interval + rest % interval ≡ rest = div-add-mod' rest interval in
-    bool_cases (ltb s k) (λ e. ltb-true s k e)
-    (λ e. let le : k ≤ s = ltb-false s k e in
-    bool_cases (ltb k s)
-    (λ f. let lt : k < s = ltb-true k s f in
-    let m : (k + 1) * interval ≤ s * interval = mul-le (k + 1) interval s interval (omega (arith, lt)) (omega arith) in
-    let never : ⊥ = omega (arith, all, m, far, ht, long) in absurd never)
-    (λ f. let ge : s ≤ k = ltb-false k s f in
-    let same : k ≡ s = omega (arith, le, ge) in
-    let product : k * interval ≡ s * interval = ap (λ (n : ℕ). n * interval) same in
-    let never : ⊥ = ⊎_elim
-    (λ (x : count ≤ rest / interval). (let none : ⊥ = omega (arith, x, same, hk) in none))
-    (λ (x : len ≤ rest % interval). (let none : ⊥ = omega (arith, all, x, product, far, ht) in none))
-    out in absurd never))
+    grind (arith, div-add-mod', bool_cases, ltb, ltb-true, ltb-false, mul-le)
 
 -- and that is not before the next slice
 pub next_slice : (start len count interval address k t : ℕ) → (count ≡ 1) ⊎ (len ≤ interval) → count ≢ 1
@@ -123,6 +91,4 @@ never_law n = (λ e. absurd (let never : false ≡ true = e in cc), λ p. absurd
 pub more_below : (P : ℕ → Type 0) (first k : ℕ) → ((j : ℕ) → first ≤ j → j < k → P j) → P k → (j : ℕ)
     → first ≤ j → j < k + 1
     → P j
-more_below P first k below here j a b =
-    bool_cases (ltb j k) (λ e. below j a (ltb-true j k e))
-    (λ e. let le = ltb-false j k e in let same : k ≡ j = omega (arith, le) in subst P same here)
+more_below P first k below here j a b = grind (arith, bool_cases, ltb, ltb-true, ltb-false)

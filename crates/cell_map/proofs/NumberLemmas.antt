@@ -1,5 +1,5 @@
 -- The numbers of cells are small: a record holds the blocks of all PLPs, each of 879 bytes at least.
-use Rattle.std.proofs.Common.{◌≡◌, ℕ, zero, suc, ◌+◌, ◌*◌, ◌/◌, ◌<◌, ◌≤◌, List, [], ◌∷◌, length, take, sum, sum_by}
+use Rattle.std.proofs.Common.{◌≡◌, ℕ, zero, suc, ◌+◌, ◌*◌, ◌<◌, ◌≤◌, List, [], ◌∷◌, length, take, sum, sum_by}
 use Rattle.std.proofs.Common.{arith}
 use Rattle.std.specs.Int.{div_ceil}
 use Rattle.std.specs.Prelude.{slice_index}
@@ -8,7 +8,6 @@ use Rattle.std.proofs.lemmas.List.Sums.{sum_by-cons}
 use Rattle.plp_config.proofs.TableLemmas.{block_table}
 use Rattle.plp_config.specs.Capacity.{RecordLength, block_room, longest_rest}
 use Rattle.plp_config.specs.Plps.{plp_at}
-use Rattle.plp_config.specs.Tables.{info_bits}
 use Rattle.plp_config.specs.declared.config.TheConstants.{GREATEST_REST}
 use Rattle.plp_config.specs.declared.plp.Plp.{Plp}
 use Rattle.cell_map.specs.Laws.{CellsFit}
@@ -17,10 +16,7 @@ use Rattle.cell_map.proofs.PlanLemmas.{block_cells-five}
 
 -- so many blocks of a PLP have no more bytes than it may have
 room_for : (blocks : ℕ) (plp : Plp) → blocks ≤ plp.blocks → 883 * blocks ≤ block_room plp
-room_for blocks plp few =
-    let bytes : 883 ≤ 4 + info_bits plp.fec plp.rate / 8 = omega (arith, (block_table plp.fec plp.rate).0) in
-    let both : blocks * 883 ≤ plp.blocks * (4 + info_bits plp.fec plp.rate / 8) = mul-le-mul few bytes in
-    omega (arith, both)
+room_for blocks plp few = grind (arith, block_table, mul-le-mul)
 
 -- nor have the blocks of the PLPs up to a place
 room_for_all : (counts : List ℕ) (plps : List Plp) (plp : ℕ)

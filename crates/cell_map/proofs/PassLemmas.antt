@@ -42,12 +42,7 @@ ends : (c : Config) (shape : FrameShape) (plp : ℕ) → StandsInOrder c shape �
     → 0 < (slices_of c shape plp).len
     → (slices_of c shape plp).start + ((slices_of c shape plp).count - 1) * shape.interval + (slices_of c shape plp).len
     ≤ c.cells
-ends c shape plp stands inside some =
-    let blocks : 0 < slice_index shape.counts plp = count_some (slice_index shape.counts plp) (block_cells c plp)
-    (spread c.plps plp) (slices_of c shape plp).count some in
-    bool_cases (in_type2 c plp)
-    (λ e. let k = kind2 c shape plp e in rw (k.len_is, k.count_is) (stands.end2 plp (inside, blocks, e)))
-    (λ e. let k = kind1 c shape plp e in rw (k.len_is, k.count_is) (omega (arith, stands.end1 plp (inside, blocks, e))))
+ends c shape plp stands inside some = grind (arith, count_some, bool_cases, kind2, kind1)
 
 -- two sub-slices that stand in order within an interval do not meet
 in_order : (a la b lb interval j k : ℕ) → a + la ≤ b → b + lb ≤ a + interval

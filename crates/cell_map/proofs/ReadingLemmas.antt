@@ -1,5 +1,5 @@
 -- From address to address along a run.
-use Rattle.std.proofs.Common.{◌≡◌, ℕ, ◌+◌, ◌-◌, ◌*◌, ◌<◌, ◌≤◌, ◌^◌, inl, inr, Some, None, ap, sym, ◌∙◌, arith, length}
+use Rattle.std.proofs.Common.{◌≡◌, ℕ, ◌+◌, ◌-◌, ◌*◌, ◌<◌, ◌≤◌, ◌^◌, Some, None, ap, sym, ◌∙◌, arith, length}
 use Rattle.std.proofs.Common.{sum, take}
 use Rattle.std.specs.Prelude.{slice_index}
 use Rattle.std.specs.FinMap.{get}
@@ -22,11 +22,7 @@ use Rattle.cell_map.proofs.AtLemmas.{address_law, cut_of, is_carried_at}
 use Rattle.cell_map.proofs.MapLemmas.{get-found, get-none}
 
 row_below : (row rows w x : ℕ) → row * w + x < rows * w → row < rows
-row_below row rows w x h =
-    elim (cases_lt row rows) [
-      | inl less ↦ less
-      | inr more ↦ (let m : rows * w ≤ row * w = mul-le rows w row w more (omega arith) in absurd (omega (arith, m)))
-    ]
+row_below row rows w x h = grind (arith, cases_lt, mul-le)
 
 -- what a run needs for its next cell
 pub record Ready (run : Run) : Type 0 where
@@ -139,19 +135,11 @@ reading_on c shape frame address before run next old mark dummy is inside none a
 pub reading_hand : (c : Config) (shape : FrameShape) (frame address : ℕ) (run next : Run) (mark : Mark) (dummy : ℕ)
     → IsReading c shape frame address run mark dummy → address < c.cells → 0 < run.left
     → Steps run next → IsReading c shape frame (address + 1) next mark dummy
-reading_hand c shape frame address run next mark dummy is inside some s =
-    let none : dummy ≡ 0 = elim (cases_lt 0 dummy) [
-      | inl less ↦ (let end = is.one less in absurd (omega (arith, end, some)))
-      | inr more ↦ omega (arith, more)
-    ] in
-    reading_on c shape frame address run run next mark mark dummy is inside none (is.next some) is.first s
+reading_hand c shape frame address run next mark dummy is inside some s = grind (arith, cases_lt, reading_on)
 
 pub dummy_here : (c : Config) (shape : FrameShape) (frame address : ℕ) (run : Run) (mark : Mark) (dummy : ℕ)
     → IsReading c shape frame address run mark dummy → 0 < dummy → None ≡ get (cell_map c shape frame) address
-dummy_here c shape frame address run mark dummy is some =
-    sym (get-none c shape frame address
-    (λ plp b q cell here. (let end = is.free plp b q cell (omega (arith, here)) in
-    let never : ⊥ = omega (arith, end, here, some) in never)))
+dummy_here c shape frame address run mark dummy is some = grind (arith, get-none)
 
 -- a run begins where a PLP has a place of a slice
 pub begins : (c : Config) (shape : FrameShape) (frame plp : ℕ) (a : Slices)

@@ -1,9 +1,9 @@
 -- Runs of cells whose places follow from one another.
-use Rattle.std.proofs.Common.{◌≡◌, ℕ, zero, suc, ◌+◌, ◌-◌, ◌*◌, ◌/◌, ◌%◌, ◌<◌, ◌≤◌, min, ◌^◌, refl, ap, sym, ◌∙◌, arith}
+use Rattle.std.proofs.Common.{◌≡◌, ℕ, zero, suc, ◌+◌, ◌-◌, ◌*◌, ◌/◌, ◌%◌, ◌<◌, ◌≤◌, min, ◌^◌, refl, ap, sym, arith}
 use Rattle.std.proofs.Common.{length}
 use Rattle.std.proofs.lemmas.Nat.{div-mul-add, mod-mul-add, div_below, mul-add-lt}
 use Rattle.cell_map.specs.declared.interleaving.TiBlock.{TiBlock}
-use Rattle.cell_map.specs.Interleaver.{ti_block_of, in_ti_block}
+use Rattle.cell_map.specs.Interleaver.{ti_block_of}
 use Rattle.cell_map.specs.Runs.{Holds, RunsFrom, Steps}
 use Rattle.cell_map.specs.declared.runs.Run.{Run}
 use Rattle.cell_map.proofs.PositionLemmas.{Law, ti_block_law, fifth_of, lies_in}
@@ -16,22 +16,7 @@ in_rows : (cells length n : ℕ) (g : TiBlock) → cells % 5 ≡ 0 → g.first +
     → Holds cells (suc length) n (g.first * cells + (row * (5 * g.size) + (5 * block + column))) (g.first + block)
     (column * (cells / 5) + row)
 in_rows cells length n g f whole same row block column hr hb hc =
-    let r : ℕ = cells / 5 in
-    let cell : ℕ = column * r + row in
-    let fifth : cells ≡ 5 * r = fifth_of cells f in
-    let one : ti_block_of n (suc length) (g.first + block) ≡ g = same (g.first + block) (omega arith) (omega arith) in
-    let q : cell / r ≡ column = div-mul-add column r row hr in
-    let m : cell % r ≡ row = mod-mul-add column r row hr in
-    let inner : g.first + block - g.first ≡ block = omega arith in
-    let small : cell < r * 5 = mul-add-lt column r row 5 hc hr in
-    let again : in_ti_block cells g (g.first + block) cell ≡ g.first *
-    cells + (row * (5 * g.size) + (5 * block + column)) =
-    rw (q, m, inner) (omega arith) in
-    record {
-      sent = omega (arith, whole);
-      within = omega (arith, small, fifth);
-      value = ap (λ (x : TiBlock). in_ti_block cells x (g.first + block) cell) one ∙ again;
-    }
+    grind (arith, fifth_of, div-mul-add, mod-mul-add, mul-add-lt)
 
 -- a run begins at a position of a TI-block
 interleaved : (cells length n before at limit left : ℕ) (g : TiBlock) → cells % 5 ≡ 0 → at < n * cells → n < 2 ^ 10
@@ -108,15 +93,7 @@ interleaved_is cells (suc length) n before at limit left g long f h few short sm
 pub lies_within : (cells length n at : ℕ) (g : TiBlock) → 0 < length → at < n * cells → g.first ≤ at / cells
     → at / cells < g.first + g.size
     → (g.first * cells ≤ at) × (at - g.first * cells < g.size * cells)
-lies_within cells length n at g long h before behind =
-    let positive : 0 < cells =
-    elim cells as (λ (k : ℕ). at < n * k → 0 < k) [
-      | zero ↦ (λ (x : at < n * 0). absurd (omega arith))
-      | suc k ↦
-          (λ (x : at < n * suc k). omega arith)
-    ] h in
-    let l = lies_in cells at g positive before behind in
-    (l.from, l.to)
+lies_within cells length n at g long h before behind = grind (arith, lies_in)
 
 pub to_row : (run : Run) → 0 < run.left → run.column < run.columns → run.columns ≤ run.column + 1 → run.block < run.size
     → run.size ≤ run.block + 1

@@ -86,10 +86,7 @@ shares_of_meet c shape i j is hi hj ne a b (k, (m, hk, hm, meets)) =
 pub some_of_shares : (c : Config) (shape : FrameShape) (i j : ℕ) → IsPlan c → Shares c shape i j
     → (0 < (slices_of c shape i).len)
     × (0 < (slices_of c shape j).len)
-some_of_shares c shape i j is s =
-    let (k, (t, x)) = at_of_cell c shape s.frame_idx i s.block s.cell is s.one in
-    let (m, (u, y)) = at_of_cell c shape s.frame_idx j s.other_block s.other_cell is s.other in
-    (omega (arith, x.inner), omega (arith, y.inner))
+some_of_shares c shape i j is s = grind (arith, at_of_cell)
 
 -- one PLP with itself
 pub self_shares : (c : Config) (shape : FrameShape) (j : ℕ) → IsPlan c → j < length c.plps
@@ -200,14 +197,7 @@ pub self_law : (c : Config) (shape : FrameShape) (j : ℕ) (a : Slices) → IsPl
     → a ≡ slices_of c shape j
     → 0 < a.count → a.count ≢ 1 →
     IsTrue (ltb shape.interval a.len) ↔ Shares c shape j j
-self_law c shape j a is h e some many =
-    let two : 1 < a.count = omega arith in
-    let more : 1 < (slices_of c shape j).count = rw e at two in
-    rw e (
-      λ t. self_shares c shape j is h more (ltb-true shape.interval (slices_of c shape j).len t),
-      λ s. bool_cases (ltb shape.interval (slices_of c shape j).len) (λ t. t)
-          (λ f. absurd (self_apart c shape j is (inr (ltb-false shape.interval (slices_of c shape j).len f)) s)),
-    )
+self_law c shape j a is h e some many = grind (arith, self_shares, ltb-true, bool_cases, ltb, self_apart, ltb-false)
 
 pub self_one : (c : Config) (shape : FrameShape) (j : ℕ) (a : Slices) → IsPlan c → a ≡ slices_of c shape j → a.count ≡ 1
     → ¬ (Shares c shape j j)
@@ -220,24 +210,12 @@ pub beyond_law : (c : Config) (shape : FrameShape) (j : ℕ) (a : Slices) → Is
     → IsTrue (ltb c.cells (a.start + (a.count - 1) * shape.interval + a.len))
     ↔ IsBeyond c shape j
 beyond_law c shape j a is h few e any some =
-    let ta : (slices_of c shape j).len ≢ 0 = rw e at some in
-    let tb : 0 < (slices_of c shape j).count = rw e at any in
-    let s = slices_of c shape j in
-    rw e (
-      λ t. beyond_last c shape j is h (omega arith) tb
-          (ltb-true c.cells (s.start + (s.count - 1) * shape.interval + s.len) t),
-      λ w. bool_cases (ltb c.cells (s.start + (s.count - 1) * shape.interval + s.len)) (λ t. t)
-          (λ f. absurd (not_beyond c shape j is few
-          (λ x. ltb-false c.cells (s.start + (s.count - 1) * shape.interval + s.len) f)
-          w)),
-    )
+    grind (arith, beyond_last, ltb-true, bool_cases, ltb, not_beyond, ltb-false)
 
 pub beyond_empty : (c : Config) (shape : FrameShape) (j : ℕ) (a : Slices) → IsPlan c → slice_index shape.counts j
     ≤ (plp_at c.plps j).blocks →
     a ≡ slices_of c shape j → a.len ≡ 0 → ¬ (IsBeyond c shape j)
-beyond_empty c shape j a is few e none =
-    let z : (slices_of c shape j).len ≡ 0 = rw e at none in
-    not_beyond c shape j is few (λ x. absurd (omega arith))
+beyond_empty c shape j a is few e none = grind (arith, not_beyond)
 
 pub alone : (c : Config) (shape : FrameShape) (j : ℕ) → IsPlan c → Passes c shape → j < length c.plps →
     ((slices_of c shape j).count ≡ 1) ⊎ ((slices_of c shape j).len ≤ shape.interval)

@@ -1,5 +1,5 @@
 -- Strips of runs.
-use Rattle.std.proofs.Common.{◌≡◌, ℕ, ◌+◌, ◌-◌, ◌*◌, ◌<◌, ◌≤◌, inl, inr, Some, None, refl, ap, ap₂, sym, ◌∙◌, arith}
+use Rattle.std.proofs.Common.{◌≡◌, ℕ, ◌+◌, ◌-◌, ◌*◌, ◌<◌, ◌≤◌, Some, None, refl, ap, ap₂, sym, ◌∙◌, arith}
 use Rattle.std.specs.FinMap.{get}
 use Rattle.std.proofs.lemmas.Bool.{cases_lt}
 use Rattle.std.proofs.lemmas.Nat.{mul-le, mul-add-lt}
@@ -100,21 +100,7 @@ pub part_cut : (run : Run) (limit columns : ℕ) (first : Cell) → IsInside run
       strip = record { first = first; stride = run.rows; columns = columns; blocks = 1 };
       rest = record run { left = run.left - columns; column = run.column + columns };
     })
-part_cut run limit columns first is some most few fits any more o q = record {
-  cells = block_cells_next run columns first is fits o q;
-  some = omega arith;
-  most = omega arith;
-  skips = record {
-    first = refl;
-    rows = refl;
-    columns = refl;
-    size = refl;
-    place = omega arith;
-    left = omega arith;
-    block = is.block;
-    column = more;
-  };
-}
+part_cut run limit columns first is some most few fits any more o q = grind (arith, block_cells_next)
 
 pub end_cut : (run rest : Run) (limit columns : ℕ) (first : Cell) → IsInside run → 0 < limit → limit ≤ run.left
     → columns ≤ limit
@@ -125,24 +111,7 @@ pub end_cut : (run rest : Run) (limit columns : ℕ) (first : Cell) → IsInside
       strip = record { first = first; stride = run.rows; columns = columns; blocks = 1 };
       rest = rest;
     })
-end_cut run rest limit columns first is some most few fits any end at o q =
-    let next : run.columns * (run.block + 1) ≡ run.columns * run.block + run.columns = omega arith in
-    record {
-      cells = block_cells_next run columns first is fits o q;
-      some = omega arith;
-      most = omega arith;
-      skips = record {
-        first = at.first;
-        rows = at.rows;
-        columns = at.columns;
-        size = at.size;
-        place = omega (arith, at.place, next, end);
-        left = omega (arith, at.left);
-        block = at.block;
-        column =
-            omega (arith, at.column, at.columns, is.column);
-      };
-    }
+end_cut run rest limit columns first is some most few fits any end at o q = grind (arith, block_cells_next)
 
 pub blocks_cut : (run rest : Run) (whole blocks : ℕ) (first : Cell) → IsInside run → run.column ≡ 0 → 0 < whole
     → whole * run.columns ≤ run.left → blocks ≤ whole → blocks ≤ run.size - run.block → 0 < blocks
@@ -279,32 +248,15 @@ pub reading_found : (c : Config) (shape : FrameShape) (frame address n : ℕ) (b
     → IsReading c shape frame address before old dummy → address + n ≤ c.cells → dummy ≡ 0
     → RunsAt c shape frame address run → IsMark c shape mark → Skips run next n → IsReading c shape frame
     (address + n) next mark dummy
-reading_found c shape frame address n before run next old mark dummy is inside none a m s = record {
-  plps = is.plps;
-  passes = is.passes;
-  few = is.few;
-  inside = inside;
-  first = m;
-  next = λ some. skipped c shape frame address n run next a s some;
-  free = λ plp b q cell far. omega (arith, far, none);
-  one = λ some. absurd (omega (arith, some, none));
-}
+reading_found c shape frame address n before run next old mark dummy is inside none a m s = grind (arith, skipped)
 
 -- the same of the run in hand
 pub reading_cut : (c : Config) (shape : FrameShape) (frame address n : ℕ) (run next : Run) (mark : Mark) (dummy : ℕ)
     → IsReading c shape frame address run mark dummy → address + n ≤ c.cells → 0 < run.left
     → Skips run next n → IsReading c shape frame (address + n) next mark dummy
-reading_cut c shape frame address n run next mark dummy is inside some s =
-    let none : dummy ≡ 0 = elim (cases_lt 0 dummy) [
-      | inl less ↦ (let end = is.one less in absurd (omega (arith, end, some)))
-      | inr more ↦ omega (arith, more)
-    ] in
-    reading_found c shape frame address n run run next mark mark dummy is inside none (is.next some) is.first s
+reading_cut c shape frame address n run next mark dummy is inside some s = grind (arith, cases_lt, reading_found)
 
 -- where none stands
 pub dummies_here : (c : Config) (shape : FrameShape) (frame address i : ℕ) (run : Run) (mark : Mark) (dummy : ℕ)
     → IsReading c shape frame address run mark dummy → i < dummy → get (cell_map c shape frame) (address + i) ≡ None
-dummies_here c shape frame address i run mark dummy is less =
-    get-none c shape frame (address + i)
-    (λ plp b q cell here. (let end = is.free plp b q cell (omega (arith, here)) in
-    let never : ⊥ = omega (arith, end, here, less) in never))
+dummies_here c shape frame address i run mark dummy is less = grind (arith, get-none)
