@@ -54,10 +54,7 @@ other_front conf bits b front read ne s =
 
 pub front_rest : (conf : L1Conf) (bits b : List Bool) (front : List ℕ) (s : ConfSpells conf bits)
     → front_read bits ≡ Ok (front, b) → (told conf bits s).b ≡ b
-front_rest conf bits b front s read =
-    let t = (told conf bits s).front in
-    let same : (front_told conf, (told conf bits s).b) ≡ (front, b) = cc in
-    ap (λ (x : List ℕ × List Bool). x.1) same
+front_rest conf bits b front s read = grind (arith, told)
 
 pub other_plps : (conf : L1Conf) (bits b : List Bool) (front : List ℕ) → front_read bits ≡ Ok (front, b)
     → ((rest : List Bool) → each_read (replicate (length conf.plps) conf_plp_read) b ≢ Ok (conf.plps, rest)) →

@@ -184,9 +184,7 @@ parts_of told all conf rest e =
 
 in_order : (all b c d rest f m p k : List Bool) → all ≡ f ++ b → b ≡ m ++ c → c ≡ p ++ d → d ≡ k ++ rest
     → all ≡ (f ++ m ++ p ++ k) ++ rest
-in_order all b c d rest f m p k x y z w =
-    x ∙ ap (λ (l : List Bool). f ++ l) (y ∙ ap (λ (l : List Bool). m ++ l) (z ∙ ap (λ (l : List Bool). p ++ l) w))
-    ∙ sym (four_parts f m p k rest)
+in_order all b c d rest f m p k x y z w = grind (arith, four_parts)
 
 pub spelled_at : (told : ℕ) (all : List Bool) (conf : L1Conf) (rest : List Bool) → Parts told all conf rest
     → ConfIsSpelled told all conf rest

@@ -17,9 +17,7 @@ use Rattle.l1_signal.specs.CrcField.{crc_read}
 pub crc_short : (counted : ℕ) (bits : List Bool) (left : ℕ) → left ≡ length bits → left < 32 → crc_read counted bits
     ≡ Err (Short left)
 unfolding crc_read
-crc_short counted bits left e less =
-    let cut : nat_lt (length bits) 32 ≡ true = lt-ltb (length bits) 32 (omega (arith, e)) in
-    rw (cut, e) refl
+crc_short counted bits left e less = grind (arith, lt-ltb)
 
 pub crc_differs : (counted : ℕ) (bits : List Bool) (read : ℕ) → 32 ≤ length bits → read ≡ number_of (take 32 bits)
     → read ≢ counted → crc_read counted bits ≡ Err (Crc read counted)

@@ -13,9 +13,9 @@ use Rattle.scheduler.specs.Shape.{FrameShape}
 use Rattle.l1_signal.specs.declared.conf.L1Conf.{L1Conf}
 use Rattle.l1_signal.specs.declared.dynamic.L1Dyn.{L1Dyn}
 use Rattle.l1_signal.specs.Fields.{Row, fields, row_bits}
-use Rattle.l1_signal.specs.L1Configurable.{conf_first_rows, conf_more_rows, conf_plp_rows, conf_back_rows, conf_bits}
-use Rattle.l1_signal.specs.L1Dynamic.{dyn_front_rows, dyn_plp_rows, dyn_back_rows, dyn_bits}
-use Rattle.l1_signal.specs.L1Of.{conf_plp_of, conf_of, dyn_plp_of, dyn_of, post_front_bits, post_bits}
+use Rattle.l1_signal.specs.L1Configurable.{conf_bits}
+use Rattle.l1_signal.specs.L1Dynamic.{dyn_bits}
+use Rattle.l1_signal.specs.L1Of.{conf_plp_of, conf_of, dyn_plp_of, dyn_of, post_bits}
 use Rattle.l1_signal.specs.Laws.{PostLength, ConfPartLength, EndsInItsCrc}
 use Rattle.l1_signal.proofs.RowLemmas.{total, length-row_bits}
 
@@ -36,34 +36,11 @@ length-each_bits rows (x ∷ xs) =
 
 length-conf_bits : (conf : L1Conf) → length (conf_bits conf) ≡ 102 + 89 * length conf.plps
 unfolding conf_bits
-length-conf_bits conf =
-    let first = row_bits conf_first_rows conf in
-    let more = row_bits conf_more_rows conf in
-    let plps = flat_map (row_bits conf_plp_rows) conf.plps in
-    omega (
-      arith,
-      length-append (first ++ more ++ plps) (row_bits conf_back_rows conf),
-      length-append (first ++ more) plps,
-      length-append first more,
-      length-row_bits conf_first_rows conf,
-      length-row_bits conf_more_rows conf,
-      length-each_bits conf_plp_rows conf.plps,
-      length-row_bits conf_back_rows conf,
-    )
+length-conf_bits conf = grind (arith, length-append, length-row_bits, length-each_bits)
 
 length-dyn_bits : (dynamic : L1Dyn) → length (dyn_bits dynamic) ≡ 79 + 48 * length dynamic.plps
 unfolding dyn_bits
-length-dyn_bits dynamic =
-    let front = row_bits dyn_front_rows dynamic in
-    let plps = flat_map (row_bits dyn_plp_rows) dynamic.plps in
-    omega (
-      arith,
-      length-append (front ++ plps) (row_bits dyn_back_rows dynamic),
-      length-append front plps,
-      length-row_bits dyn_front_rows dynamic,
-      length-each_bits dyn_plp_rows dynamic.plps,
-      length-row_bits dyn_back_rows dynamic,
-    )
+length-dyn_bits dynamic = grind (arith, length-append, length-row_bits, length-each_bits)
 
 pub conf_plps-len : (c : Config) → length (conf_of c).plps ≡ length c.plps
 unfolding conf_of
@@ -79,19 +56,7 @@ conf_part_length c = length-conf_bits (conf_of c) ∙ ap (λ (n : ℕ). 102 + 89
 pub post_length : PostLength
 unfolding post_bits
 post_length c frame shape =
-    let front = post_front_bits c frame shape in
-    let conf = length-conf_bits (conf_of c) in
-    let dynamic = length-dyn_bits (dyn_of c frame shape) in
-    omega (
-      arith,
-      length-append front (field 32 (crc32_of front)),
-      length-field 32 (crc32_of front),
-      length-append (conf_bits (conf_of c)) (dyn_bits (dyn_of c frame shape)),
-      conf,
-      dynamic,
-      conf_plps-len c,
-      dyn_plps-len c frame shape,
-    )
+    grind (arith, length-conf_bits, length-dyn_bits, length-append, length-field, conf_plps-len, dyn_plps-len)
 
 pub ends_in_its_crc : CrcIsRemainder → EndsInItsCrc
 ends_in_its_crc law front =

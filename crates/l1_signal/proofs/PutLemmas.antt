@@ -71,11 +71,7 @@ put_more join fs vs i d old mid new h a b p = record {
 
 pub put_all : (fs : List Field) (vs : List ℕ) (i : ℕ) (old new : State) → IsPut fs vs i old new → length fs ≤ i
     → Puts old new (spelling fs vs)
-put_all fs vs i old new h le =
-    let e : spelling fs vs ≡ h.front =
-    h.whole ∙ ap (λ (l : List Field). h.front ++ spelling l (drop i vs)) (drop_all i fs le)
-    ∙ ap (λ (l : List Bool). h.front ++ l) (nothing (drop i vs)) ∙ append-nil h.front in
-    subst (Puts old new) (sym e) h.puts
+put_all fs vs i old new h le = grind (arith, drop_all, nothing, append-nil)
 
 pub put_stops : StopsHere → StopsLater → (fs : List Field) (vs : List ℕ) (i : ℕ) (d : Field) (fault : SinkFault)
     (old mid new : State) → IsPut fs vs i old mid → i < length fs → i < length vs →

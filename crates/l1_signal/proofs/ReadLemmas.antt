@@ -22,9 +22,7 @@ use Rattle.l1_signal.specs.Places.{AreSmall}
 pub field_short : (f : Field) (bits : List Bool) (left : ℕ) → left ≡ length bits → left < f.width
     → field_read f bits ≡ Err (Short left)
 unfolding field_read
-field_short f bits left e less =
-    let cut : nat_lt (length bits) f.width ≡ true = lt-ltb (length bits) f.width (omega (arith, e)) in
-    rw (cut, e) refl
+field_short f bits left e less = grind (arith, lt-ltb)
 
 pub field_refused : (f : Field) (bits : List Bool) (value : ℕ) → f.width ≤ length bits
     → value ≡ number_of (take f.width bits)
@@ -73,12 +71,7 @@ is_field f bits value rest e = tested f bits _ _ value rest refl refl e
 field_back : (f : Field) (value : ℕ) (rest : List Bool) → value < 2 ^ f.width → meets f.demand value ≡ true
     → field_read f (field f.width value ++ rest) ≡ Ok (value, rest)
 field_back f value rest fits met =
-    let long : f.width ≤ length (field f.width value ++ rest) =
-    omega (arith, length-append (field f.width value) rest, length-field f.width value) in
-    let same : value ≡ number_of (take f.width (field f.width value ++ rest)) =
-    sym (ap number_of (take-field f.width value rest) ∙ number_of-field f.width value fits) in
-    field_done f (field f.width value ++ rest) value long same met
-    ∙ ap (λ (l : List Bool). Ok (value, l)) (drop-field f.width value rest)
+    grind (arith, length-append, length-field, take-field, number_of-field, field_done, drop-field)
 
 -- ---- one reading after another
 pub record Went {A B : Type 0} (r : Reading A) (next : A → List Bool → Reading B) (y : B × List Bool) : Type 0 where
@@ -224,19 +217,14 @@ pub next_field : (fs : List Field) (i : ℕ) (d : Field) (out : List ℕ) (bits 
     behind (take i out) (values_of (drop i fs) bits) ≡ behind (take (i + 1) (set out i value))
     (values_of (drop (i + 1) fs) rest)
 unfolding values_of
-next_field fs i d out bits rest value lt inside e =
-    next_read (map field_read (drop i fs)) (map field_read (drop (i + 1) fs)) (field_read (get_or fs i d))
-    (take i out) bits rest value (fields_from fs i d lt) e
-    ∙ ap (λ (l : List ℕ). behind l (values_of (drop (i + 1) fs) rest)) (sym (take_more_set out i value inside))
+next_field fs i d out bits rest value lt inside e = grind (arith, next_read, fields_from, take_more_set)
 
 pub stopped_field : (fs : List Field) (i : ℕ) (d : Field) (front : List ℕ) (bits : List Bool) (fault : L1Fault)
     → i < length fs
     → field_read (get_or fs i d) bits ≡ Err fault →
     behind front (values_of (drop i fs) bits) ≡ Err fault
 unfolding values_of
-stopped_field fs i d front bits fault lt e = stopped_read (map field_read (drop i fs))
-    (map field_read (drop (i + 1) fs))
-    (field_read (get_or fs i d)) front bits fault (fields_from fs i d lt) e
+stopped_field fs i d front bits fault lt e = grind (arith, stopped_read, fields_from)
 
 pub all_fields : (fs : List Field) (i : ℕ) (out : List ℕ) (bits : List Bool) → length fs ≤ i → length out ≤ i
     → behind (take i out) (values_of (drop i fs) bits) ≡ Ok (out, bits)

@@ -1,5 +1,5 @@
 -- The values of a frame, PLP by PLP.
-use Rattle.std.proofs.Common.{◌≡◌, ℕ, ◌+◌, ◌%◌, ◌^◌, ◌<◌, List, length, map, get_or, refl, sym, ◌∙◌, arith}
+use Rattle.std.proofs.Common.{◌≡◌, ℕ, ◌%◌, ◌^◌, ◌<◌, List, length, map, get_or, refl, sym, ◌∙◌, arith}
 use Rattle.std.proofs.lemmas.List.{ext_get_or, get_or-map, length-map}
 use Rattle.std.proofs.lemmas.List.FromFn.{get_or-map-range_with_len, length-map-range_with_len}
 use Rattle.plp_config.specs.Plps.{plp_at}
@@ -10,7 +10,7 @@ use Rattle.l1_signal.specs.declared.dyn_plp.DynPlp.{DynPlp}
 use Rattle.l1_signal.specs.declared.dynamic.L1Dyn.{L1Dyn}
 use Rattle.l1_signal.specs.Fields.{Fits, RowsFit}
 use Rattle.l1_signal.specs.L1Dynamic.{DynFits, no_dyn_plp}
-use Rattle.l1_signal.specs.L1Of.{dyn_plp_of, dyn_of, told_shape}
+use Rattle.l1_signal.specs.L1Of.{dyn_of, told_shape}
 use Rattle.l1_signal.proofs.ReadLemmas.{pow_pos}
 
 -- a list of the values of another one, place by place
@@ -26,23 +26,8 @@ pub dyn_numbers_fit : (c : Config) (frame : ℕ) (shape : FrameShape)
     → ((place : ℕ) → place < length c.plps → (plp_at c.plps place).id < 2 ^ 8) → frame % c.frames < 2 ^ 8 → FitsL1 shape
     → DynFits (dyn_of c frame shape)
 unfolding dyn_of RowsFit Fits
-dyn_numbers_fit c frame shape ids idx s = record {
-  front = (
-    idx,
-    refl,
-    (
-      s.interval,
-      refl,
-      (s.type2_start, refl, (pow_pos 8, refl, (pow_pos 3, refl, (pow_pos 8, refl, tt)))),
-    ),
-  );
-  plps = λ k d lt.
-      let size = length-map-range_with_len (dyn_plp_of c shape) 0 (length c.plps) in
-      let inside : k < length c.plps = omega (arith, lt, size) in
-      let here : 0 + k ≡ k = omega arith in
-      rw (get_or-map-range_with_len (dyn_plp_of c shape) 0 (length c.plps) k k d inside here)
-      ((ids k inside, refl, (s.starts k, refl, (s.counts k, refl, (pow_pos 8, refl, tt)))));
-}
+dyn_numbers_fit c frame shape ids idx s =
+    grind (arith, pow_pos, length-map-range_with_len, get_or-map-range_with_len)
 
 joined : (shape : FrameShape) (counts starts : List ℕ) (interval start : ℕ) → shape.counts ≡ counts
     → shape.starts ≡ starts
