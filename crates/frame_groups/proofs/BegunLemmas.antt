@@ -1,6 +1,6 @@
 -- Where interleaving frames begin, and the groups there.
-use Rattle.std.proofs.Common.{◌≡◌, ◌≢◌, ℕ, zero, suc, ◌+◌, ◌-◌, ◌*◌, ◌%◌, ◌<◌, ◌≤◌, ◌==◌, ◌^◌, Bool, false, List, []}
-use Rattle.std.proofs.Common.{◌∷◌, length, get_or, sum_by, Option, Some, None, refl, ap, ap₂, sym, subst, ◌∙◌, ⊎_elim}
+use Rattle.std.proofs.Common.{◌≡◌, ◌≢◌, ℕ, zero, suc, ◌+◌, ◌-◌, ◌%◌, ◌<◌, ◌≤◌, ◌==◌, ◌^◌, false, List, []}
+use Rattle.std.proofs.Common.{◌∷◌, length, get_or, sum_by, Option, Some, None, refl, ap, ap₂, ◌∙◌, ⊎_elim}
 use Rattle.std.proofs.Common.{arith}
 use Rattle.std.specs.List.{range_with_len}
 use Rattle.std.specs.Option.{option_or}
@@ -8,38 +8,26 @@ use Rattle.std.proofs.lemmas.Bool.{cases_eq, cond-true, cond-false, eq-eqb, ne_e
 use Rattle.std.proofs.lemmas.List.Folds.{list_any_none}
 use Rattle.std.proofs.lemmas.List.FromFn.{length-range_with_len, get_or-range_with_len}
 use Rattle.std.proofs.lemmas.List.Sums.{sum_by-cons}
-use Rattle.plp_config.specs.Capacity.{block_bytes}
-use Rattle.plp_config.specs.InterleavingFrames.{begin_of}
 use Rattle.plp_config.specs.Laws.{BeginsInSuperframe}
 use Rattle.plp_config.specs.Places.{places}
 use Rattle.plp_config.specs.Rules.{AllRules}
 use Rattle.plp_config.specs.declared.config.Config.{Config}
-use Rattle.linked_pool.specs.Pool.{chunks_for}
 use Rattle.t2mi_packet.specs.declared.packet.Packet.{Packet}
 use Rattle.frame_groups.specs.Modulated.{Numbered}
 use Rattle.frame_groups.specs.declared.cause.MuteCause.{MuteCause}
 use Rattle.frame_groups.specs.declared.cause.MuteCause.TheVariants.{PoolFull}
 use Rattle.frame_groups.specs.Begun.{is_begin, packets_at}
-use Rattle.frame_groups.specs.Carried.{right_blocks}
-use Rattle.frame_groups.specs.Tests.{unless, pool_chunks, pool_need, capped, room_test, first_failure}
+use Rattle.frame_groups.specs.Tests.{pool_chunks, pool_need, capped, room_test, first_failure}
 
 -- ---- where none begins
 
 pub place_there : (c : Config) (k d : ℕ) → k < length (places c) → (get_or (places c) k d ≡ k) × (k < length c.plps)
-place_there c k d l =
-    let inside : k < length c.plps = let n = length-range_with_len 0 (length c.plps) in omega (arith, n, l) in
-    let e = get_or-range_with_len 0 (length c.plps) k d inside in
-    (omega (arith, e), inside)
+place_there c k d l = grind (arith, length-range_with_len, get_or-range_with_len)
 
 -- in a superframe before none begins that a frame carries
 pub none_begins : BeginsInSuperframe → (c : Config) (n b : ℕ) → AllRules c → b < n - n % c.frames
     → is_begin c n b ≡ false
-none_begins inside c n b rules low =
-    list_any_none (λ plp. begin_of c plp n == b) (places c)
-    (λ k d l.
-    let at = place_there c k d l in
-    subst (λ (j : ℕ). (begin_of c j n == b) ≡ false) (sym at.0)
-    (ne_eqb (begin_of c k n) b (λ e. let late = inside c k n rules at.1 in omega (arith, late, low, e))))
+none_begins inside c n b rules low = grind (arith, list_any_none, place_there, ne_eqb)
 
 -- ---- the first test that fails
 
@@ -84,31 +72,20 @@ none_needed f a (suc n) h =
     omega (arith, x, one, rest)
 
 pub no_need : (c : Config) → pool_need c [] ≡ 0
-no_need c = none_needed (λ plp. length (right_blocks c plp []) * chunks_for (block_bytes c plp)) 0 (length c.plps)
-    (λ plp. no_times (chunks_for (block_bytes c plp)))
-  where
-    no_times : (k : ℕ) → 0 * k ≡ 0
-    no_times k = omega arith
+no_need c = grind (arith, none_needed)
 
 -- whether packets have room, by the number that is held of the chunks that they need
 pub has_room : (c : Config) (packets : List Packet) (held : ℕ) → held ≡ capped (pool_need c packets)
     → pool_chunks c < 2 ^ 32
     → held ≤ pool_chunks c → room_test c packets ≡ None
 unfolding room_test
-has_room c packets held is few low =
-    let l : pool_need c packets ≤ pool_chunks c = omega (arith, is, few, low) in
-    ap (λ (t : Bool). unless t (PoolFull (capped (pool_need c packets)) (pool_chunks c)))
-    (le-leb (pool_need c packets) (pool_chunks c) l)
+has_room c packets held is few low = grind (arith, le-leb)
 
 pub lacks_room : (c : Config) (packets : List Packet) (held : ℕ) → held ≡ capped (pool_need c packets)
     → pool_chunks c < 2 ^ 32
     → pool_chunks c < held → room_test c packets ≡ Some (PoolFull held (pool_chunks c))
 unfolding room_test
-lacks_room c packets held is few high =
-    let l : pool_chunks c < pool_need c packets = omega (arith, is, few, high) in
-    ap (λ (t : Bool). unless t (PoolFull (capped (pool_need c packets)) (pool_chunks c))) (lt-leb (pool_need c packets)
-    (pool_chunks c) l)
-    ∙ ap (λ (k : ℕ). Some (PoolFull k (pool_chunks c))) (sym is)
+lacks_room c packets held is few high = grind (arith, lt-leb)
 
 pub no_room_asked : (c : Config) → pool_chunks c < 2 ^ 32 → room_test c [] ≡ None
 no_room_asked c few = has_room c [] 0 (let e = no_need c in omega (arith, e)) few (omega arith)

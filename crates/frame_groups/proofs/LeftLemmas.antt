@@ -1,7 +1,7 @@
 -- How many records a group can still bring.
-use Rattle.std.proofs.Common.{◌≡◌, ◌⊎◌, ℕ, ◌+◌, ◌<◌, ◌≤◌, ◌==◌, ◌&&◌, Bool, true, false, cond, Option, Some, None, refl}
-use Rattle.std.proofs.Common.{sym, inl, inr, ⊎_elim, arith}
-use Rattle.std.specs.Prelude.{nat_lt, is_some}
+use Rattle.std.proofs.Common.{◌≡◌, ◌⊎◌, ℕ, ◌+◌, ◌<◌, ◌≤◌, Bool, true, false, cond, Option, Some, None, refl}
+use Rattle.std.proofs.Common.{sym, inl, inr, arith}
+use Rattle.std.specs.Prelude.{is_some}
 use Rattle.std.proofs.lemmas.Bool.{true≢false, ltb-true, eqb-true, and_parts}
 use Rattle.frame_groups.specs.declared.cause.MuteCause.{MuteCause}
 use Rattle.frame_groups.specs.Waits.{waits_by, records_by}
@@ -16,11 +16,7 @@ by_one false false a b e = absurd (true≢false (sym e))
 -- the record that waits is the group's own, or of a frame before it
 not_behind : (n next : ℕ) (closing : Bool) (fault : Option MuteCause) → waits_by (Some n) next closing fault ≡ true
     → next ≤ n
-not_behind n next closing fault w = ⊎_elim
-    (λ (t : nat_lt next n ≡ true). let l = ltb-true next n t in omega (arith, l))
-    (λ (u : (closing && (next == n)) ≡ true). let e = eqb-true next n (and_parts closing (next == n) u).1 in
-    omega (arith, e))
-    (by_one (nat_lt next n) (closing && (next == n)) _ _ w)
+not_behind n next closing fault w = grind (arith, ltb-true, eqb-true, and_parts, by_one)
 
 -- once it was given, one record fewer is left
 pub fewer : (number : Option ℕ) (next : ℕ) (closing : Bool) (fault : Option MuteCause)

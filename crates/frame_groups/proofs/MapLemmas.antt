@@ -1,5 +1,5 @@
 -- The test of a shape says whether it passes.
-use Rattle.std.proofs.Common.{◌≡◌, ℕ, zero, suc, ◌+◌, ◌-◌, ◌*◌, ◌/◌, ◌%◌, ◌<◌, ◌==◌, ◌&&◌, ◌||◌, not, Bool, true, false}
+use Rattle.std.proofs.Common.{◌≡◌, ℕ, zero, suc, ◌+◌, ◌/◌, ◌%◌, ◌<◌, ◌==◌, ◌&&◌, ◌||◌, not, Bool, true, false}
 use Rattle.std.proofs.Common.{List, [], ◌∷◌, cond, length, refl, sym, ap, ◌∙◌, subst, arith}
 use Rattle.std.specs.Prelude.{slice_index, nat_le, filter}
 use Rattle.std.specs.List.{list_all, range_with_len}
@@ -10,7 +10,7 @@ use Rattle.plp_config.specs.Plps.{plp_at}
 use Rattle.plp_config.specs.Rules.{SuperframeLength}
 use Rattle.plp_config.specs.declared.config.Config.{Config}
 use Rattle.scheduler.specs.Shape.{FrameShape, cells_of}
-use Rattle.cell_map.specs.Address.{IsCarried, position_of, part_of, address_at, address_of}
+use Rattle.cell_map.specs.Address.{IsCarried, position_of, part_of, address_of}
 use Rattle.cell_map.specs.CellMap.{Passes, is_carried, carried_cells}
 use Rattle.cell_map.specs.Laws.{PartsRepeat}
 use Rattle.frame_groups.specs.MapTest.{each_below, each_cell, is_within, are_apart, all_apart, counts_within}
@@ -77,10 +77,7 @@ carried_at c shape frame_idx i b test e q l carried =
 carried_from : (c : Config) (shape : FrameShape) (frame_idx i b : ℕ) (test : ℕ → Bool)
     → ((q : ℕ) → q < block_cells c i → is_carried c shape frame_idx i b q ≡ true → test q ≡ true)
     → list_all test (carried_cells c shape frame_idx i b) ≡ true
-carried_from c shape frame_idx i b test h =
-    filtered (is_carried c shape frame_idx i b) test (range_with_len 0 (block_cells c i))
-    ∙ each_from (block_cells c i) (λ k. not (is_carried c shape frame_idx i b k) || test k)
-    (λ q l. keeps (is_carried c shape frame_idx i b q) (test q) (h q l))
+carried_from c shape frame_idx i b test h = grind (arith, filtered, each_from, keeps)
 
 -- each cell that a frame carries passes
 cell_at : (c : Config) (shape : FrameShape) (frame_idx : ℕ) (test : ℕ → ℕ → ℕ → Bool)
@@ -113,25 +110,12 @@ cell_from c shape frame_idx test h =
 apart_at : (a b i j d e q r : ℕ) → (not (a == b) || ((i == j) && (d == e) && (q == r))) ≡ true → a ≡ b
     → (i ≡ j) × (d ≡ e)
     × (q ≡ r)
-apart_at a b i j d e q r t same = go (a == b) (eq-eqb a b same) t
-  where
-    go : (x : Bool) → x ≡ true → (not x || ((i == j) && (d == e) && (q == r))) ≡ true → (i ≡ j) × (d ≡ e) × (q ≡ r)
-    go true y t =
-        let first = and_parts ((i == j) && (d == e)) (q == r) t in
-        let second = and_parts (i == j) (d == e) first.0 in
-        (eqb-true i j second.0, eqb-true d e second.1, eqb-true q r first.1)
-    go false y t = absurd (both_ways false refl y)
+apart_at a b i j d e q r t same = grind (arith, eq-eqb, and_parts, eqb-true, both_ways)
 
 apart_from : (a b i j d e q r : ℕ) → (a ≡ b → (i ≡ j) × (d ≡ e) × (q ≡ r))
     → (not (a == b) || ((i == j) && (d == e) && (q == r)))
     ≡ true
-apart_from a b i j d e q r h = go (a == b) refl
-  where
-    go : (x : Bool) → (a == b) ≡ x → (not x || ((i == j) && (d == e) && (q == r))) ≡ true
-    go true y = let s = h (eqb-true a b y) in
-        and_from ((i == j) && (d == e)) (q == r) (and_from (i == j) (d == e) (eq-eqb i j s.0) (eq-eqb d e s.1))
-        (eq-eqb q r s.2)
-    go false y = refl
+apart_from a b i j d e q r h = grind (arith, eqb-true, and_from, eq-eqb)
 
 -- a frame and the one with its number in the first superframe carry the same cells at the same addresses
 carried_again : (c : Config) (shape : FrameShape) (frame_idx other plp block cell : ℕ)
@@ -143,23 +127,17 @@ carried_again c shape frame_idx other plp block cell same is =
 address_again : (c : Config) (shape : FrameShape) (frame_idx other plp block cell : ℕ)
     → part_of c other plp ≡ part_of c frame_idx plp
     → address_of c shape other plp block cell ≡ address_of c shape frame_idx plp block cell
-address_again c shape frame_idx other plp block cell same =
-    ap (λ (part : ℕ). address_at c shape plp (position_of c shape plp block cell - part * cells_of c shape.counts plp))
-    same
+address_again c shape frame_idx other plp block cell same = grind arith
 
 module _ (repeat : PartsRepeat) (c : Config) (shape : FrameShape) (plan : IsPlan c) where
   -- the same of a frame of a run, by its number in its superframe
   again : (frame_idx plp block cell : ℕ) → IsCarried c shape frame_idx plp block cell
       → IsCarried c shape (frame_idx % c.frames) plp block cell
-  again frame_idx plp block cell is =
-      carried_again c shape frame_idx (frame_idx % c.frames) plp block cell
-      (repeat c frame_idx plp plan is.there.configured) is
+  again frame_idx plp block cell is = grind (arith, carried_again)
 
   there_again : (frame_idx plp block cell : ℕ) → IsCarried c shape frame_idx plp block cell
       → address_of c shape (frame_idx % c.frames) plp block cell ≡ address_of c shape frame_idx plp block cell
-  there_again frame_idx plp block cell is =
-      address_again c shape frame_idx (frame_idx % c.frames) plp block cell
-      (repeat c frame_idx plp plan is.there.configured)
+  there_again frame_idx plp block cell is = grind (arith, address_again)
 
   -- each frame of a run is like one of a superframe
   frame_at : each_below c.frames (frame_passes c shape) ≡ true → (frame_idx : ℕ)
@@ -219,11 +197,7 @@ frame_from c shape frame_idx p =
 
 passes_from : (c : Config) (shape : FrameShape) → Passes c shape → map_passes c shape ≡ true
 unfolding map_passes
-passes_from c shape p =
-    and_from (counts_within c shape) (each_below c.frames (frame_passes c shape))
-    (each_from (length c.plps) (λ plp. nat_le (slice_index shape.counts plp) (plp_at c.plps plp).blocks)
-    (λ plp l. le-leb (slice_index shape.counts plp) (plp_at c.plps plp).blocks (p.counts plp l)))
-    (each_from c.frames (frame_passes c shape) (λ frame_idx l. frame_from c shape frame_idx p))
+passes_from c shape p = grind (arith, and_from, each_from, le-leb, frame_from)
 
 pub map_is : PartsRepeat → MapPasses
 map_is repeat c shape plan = (passes_at repeat c shape plan, passes_from c shape)

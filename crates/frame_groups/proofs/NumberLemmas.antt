@@ -1,5 +1,5 @@
 -- The least number above that has a key.
-use Rattle.std.proofs.Common.{◌≡◌, refl, ℕ, zero, suc, ◌+◌, ◌-◌, ◌*◌, ◌/◌, ◌%◌, ◌<◌, ◌≤◌, ◌==◌, Bool, true, false, ap}
+use Rattle.std.proofs.Common.{◌≡◌, refl, ℕ, zero, suc, ◌+◌, ◌-◌, ◌*◌, ◌/◌, ◌%◌, ◌<◌, ◌≤◌, Bool, true, false, ap}
 use Rattle.std.proofs.Common.{ap₂, sym, subst, ◌∙◌, ⊎_elim, arith, mul-le-mul_left, mul-le-mul_right}
 use Rattle.std.proofs.lemmas.Bool.{cases_eq, cases_lt, cond-true, cond-false, eqb-true, eq-eqb, and_parts, and_from}
 use Rattle.std.proofs.lemmas.Bool.{false_from_ne_true, true≢false}
@@ -22,16 +22,10 @@ first_is f (suc steps) n m low high here none =
     (cases_eq n m)
 
 pub same_key : (k l : Key) → is_same k l ≡ true → k ≡ l
-same_key k l e =
-    let p = and_parts (k.superframe == l.superframe) (k.frame == l.frame) e in
-    let a : k.superframe ≡ l.superframe = eqb-true k.superframe l.superframe p.0 in
-    let b : k.frame ≡ l.frame = eqb-true k.frame l.frame p.1 in
-    ap₂ (λ (s f : ℕ). record { superframe = s; frame = f }) a b
+same_key k l e = grind (arith, and_parts, eqb-true, ap₂)
 
 pub is_same_self : (k l : Key) → k ≡ l → is_same k l ≡ true
-is_same_self k l e = and_from (k.superframe == l.superframe) (k.frame == l.frame)
-    (eq-eqb k.superframe l.superframe (ap (λ (k : Key). k.superframe) e))
-    (eq-eqb k.frame l.frame (ap (λ (k : Key). k.frame) e))
+is_same_self k l e = grind (arith, and_from, eq-eqb)
 
 -- keys come again after 16 superframes
 key_at : (frames q s f : ℕ) → s < 16 → f < frames → frame_key frames (16 * frames * q + (s * frames + f))
@@ -58,16 +52,7 @@ at_key frames n k e some =
 
 -- two numbers with a key lie a whole number of rounds apart
 apart : (d q r x i n : ℕ) → d * r + x < d * q + x → i ≡ d * r + x → d * q + x ≤ n + d → i ≤ n
-apart d q r x i n less e top =
-    ⊎_elim
-    (λ (a : r < q).
-    let s : r + 1 ≤ q = omega arith in
-    let g : d * (r + 1) ≤ d * q = mul-le-mul_left d s in
-    omega (arith, g))
-    (λ (a : q ≤ r).
-    let g : d * q ≤ d * r = mul-le-mul_left d a in
-    absurd (omega (arith, g)))
-    (cases_lt r q)
+apart d q r x i n less e top = grind (arith, mul-le-mul_left, cases_lt)
 
 -- where the closed form lies
 pub record Round (d x n m : ℕ) : Type 0 where
@@ -140,23 +125,7 @@ next_law frames n k h = (subst (IsNext frames n k) (sym first) is_next, first)
 
 -- a number with the key of a later frame, if that is nearer than keys come again
 one_round : (d x q r n next m : ℕ) → next ≡ d * q + x → m ≡ d * r + x → n < next → next ≤ m → m < n + d → next ≡ m
-one_round d x q r n next m a b low up near =
-    ⊎_elim
-    (λ (less : q < r).
-    let g : d * (q + 1) ≤ d * r = mul-le-mul_left d (suc_le less) in
-    absurd (omega (arith, g)))
-    (λ (more : r ≤ q).
-    ⊎_elim
-    (λ (e : r ≡ q). a ∙ ap (λ (k : ℕ). d * k + x) (sym e) ∙ sym b)
-    (λ (ne : r ≡ q → ⊥).
-    let less : r < q = omega (arith, ne) in
-    let g : d * (r + 1) ≤ d * q = mul-le-mul_left d (suc_le less) in
-    omega (arith, g))
-    (cases_eq r q))
-    (cases_lt q r)
-  where
-    suc_le : {i j : ℕ} → i < j → i + 1 ≤ j
-    suc_le h = omega (arith, h)
+one_round d x q r n next m a b low up near = grind (arith, mul-le-mul_left, cases_eq, cases_lt)
 
 pub found : (frames n m : ℕ) → 0 < frames → n < m → m < n + 16 * frames → next_number frames n (frame_key frames m) ≡ m
 found frames n m some low near =

@@ -205,10 +205,7 @@ module _ (pre_back : PreReadBack) (pre_spelled : PreReadSpelled) (conf_back : Co
     (conf_spelled : ConfReadSpelled)
     (dyn_back : DynReadBack) (dyn_spelled : DynReadSpelled) where
   pub conf_is_told : ConfTold
-  conf_is_told c bits = (
-    conf_from pre_back pre_spelled conf_back conf_spelled dyn_back dyn_spelled c bits,
-    conf_to pre_back pre_spelled conf_back conf_spelled dyn_back dyn_spelled c bits,
-  )
+  conf_is_told c bits = grind (arith, conf_from, conf_to)
 
   pub parts_told : PartsTold
   parts_told c n l1 = told_both pre_back pre_spelled conf_back conf_spelled dyn_back dyn_spelled c n l1

@@ -1,8 +1,7 @@
 -- Packets one at a time.
-use Rattle.std.proofs.Common.{◌≡◌, ℕ, ◌+◌, ◌<◌, ◌≤◌, ◌==◌, ◌&&◌, Bool, true, false, cond, List, [], ◌∷◌, ◌++◌, Option}
+use Rattle.std.proofs.Common.{◌≡◌, ℕ, ◌+◌, ◌<◌, ◌==◌, ◌&&◌, Bool, true, false, cond, List, [], ◌∷◌, ◌++◌, Option}
 use Rattle.std.proofs.Common.{Some, None, refl, ap, sym, subst, ◌∙◌, arith}
 use Rattle.std.specs.Prelude.{is_some, nat_lt}
-use Rattle.std.specs.List.{filter}
 use Rattle.std.proofs.lemmas.Bool.{true≢false, cond-true, cond-false, ltb-true, ltb-false, eqb-true, eqb-false}
 use Rattle.std.proofs.lemmas.List.Elements.{filter-append}
 use Rattle.std.proofs.lemmas.Option.{same_Some}
@@ -27,11 +26,7 @@ use Rattle.frame_groups.proofs.FollowLemmas.{start_first, goes_on, begins, gap_g
 pub kept_more : (r : Rules) (ps : List Packet) (p : Packet) → is_counted r.frames p ≡ true
     → kept_groups r (ps ++ p ∷ [])
     ≡ with_packet (kept_groups r ps) p
-kept_more r ps p e =
-    ap grouped
-    (filter-append (is_counted r.frames) ps (p ∷ [])
-    ∙ ap (λ (l : List Packet). filter (is_counted r.frames) ps ++ l) (cond-true (is_counted r.frames p) (p ∷ []) [] e))
-    ∙ grouped_more (filter (is_counted r.frames) ps) p
+kept_more r ps p e = grind (arith, filter-append, cond-true, grouped_more)
 
 -- the key of a packet that is kept fits
 stamp_fits : (frames : ℕ) (before : Option Key) (superframe : ℕ) → 0 < frames → superframe < 16
@@ -88,11 +83,7 @@ pub groups_on : (r : Rules) (ps : List Packet) (p : Packet) (closed : List Group
     → kept_groups r ps ≡ record { closed = closed; under_way = Some h }
     → is_same h.key (key_behind (Some h.key) p) ≡ true
     → kept_groups r (ps ++ p ∷ []) ≡ record { closed = closed; under_way = Some (one_more h p) }
-groups_on r ps p closed h e a same =
-    kept_more r ps p e ∙ ap (λ (g : Grouped). with_packet g p) a
-    ∙ cond-true (is_same h.key (key_behind (Some h.key) p))
-    (record { closed = closed; under_way = Some (one_more h p) })
-    (record { closed = closed ++ h ∷ []; under_way = Some (one_packet (key_behind (Some h.key) p) p) }) same
+groups_on r ps p closed h e a same = grind (arith, kept_more, cond-true)
 
 pub groups_new : (r : Rules) (ps : List Packet) (p : Packet) (closed : List Group) (h : Group)
     → is_counted r.frames p ≡ true
@@ -100,11 +91,7 @@ pub groups_new : (r : Rules) (ps : List Packet) (p : Packet) (closed : List Grou
     → is_same h.key (key_behind (Some h.key) p) ≡ false
     → kept_groups r (ps ++ p ∷ [])
     ≡ record { closed = closed ++ h ∷ []; under_way = Some (one_packet (key_behind (Some h.key) p) p) }
-groups_new r ps p closed h e a other =
-    kept_more r ps p e ∙ ap (λ (g : Grouped). with_packet g p) a
-    ∙ cond-false (is_same h.key (key_behind (Some h.key) p))
-    (record { closed = closed; under_way = Some (one_more h p) })
-    (record { closed = closed ++ h ∷ []; under_way = Some (one_packet (key_behind (Some h.key) p) p) }) other
+groups_new r ps p closed h e a other = grind (arith, kept_more, cond-false)
 
 pub added : (r : Rules) (past : List Numbered) (h : Group) (number : Option ℕ) (next : ℕ) (old : Option MuteCause)
     (ps : List Packet) (given : List FrameRecord) (p : Packet)
@@ -191,11 +178,7 @@ none_came r = refl
 
 -- nothing waits_by, so the record of the closed group was given
 pub own_was_given : (n next : ℕ) (fault : Option MuteCause) → waits_by (Some n) next true fault ≡ false → n < next
-own_was_given n next fault e =
-    let t = neither (nat_lt next n) (next == n) _ _ e in
-    let a : n ≤ next = ltb-false next n t.0 in
-    let b : next ≡ n → ⊥ = eqb-false next n t.1 in
-    omega (arith, a, b)
+own_was_given n next fault e = grind (arith, neither, ltb-false, eqb-false)
 
 pub started : (r s : Rules) (past : List Numbered) (g new : Option Group) (h : Group) (number after : Option ℕ)
     (next : ℕ)

@@ -1,8 +1,8 @@
 -- The tests, packet by packet.
-use Rattle.std.proofs.Common.{◌≡◌, ℕ, zero, suc, ◌+◌, ◌*◌, ◌<◌, ◌≤◌, ◌==◌, ◌&&◌, ◌||◌, not, Bool, true, false, List, []}
+use Rattle.std.proofs.Common.{◌≡◌, ℕ, zero, suc, ◌+◌, ◌*◌, ◌<◌, ◌≤◌, ◌&&◌, ◌||◌, not, Bool, true, false, List, []}
 use Rattle.std.proofs.Common.{◌∷◌, ◌++◌, map, length, Option, Some, None, refl, ap, ap₂, sym, ◌∙◌, arith, length-append}
 use Rattle.std.specs.Prelude.{slice_index, slice_get, if◌then◌else◌, nat_le, nat_lt, is_some, cond, option_map}
-use Rattle.std.specs.List.{range_with_len, list_all, find, filter}
+use Rattle.std.specs.List.{range_with_len, list_all, find}
 use Rattle.std.specs.Option.{option_or, option_and_then, option_map_or}
 use Rattle.std.proofs.lemmas.Bool.{and_parts, eqb-true, lt-ltb}
 use Rattle.std.proofs.lemmas.List.Elements.{filter_map-append, filter-append}
@@ -10,10 +10,8 @@ use Rattle.std.proofs.lemmas.List.Folds.{list_all-append, find-append}
 use Rattle.std.proofs.lemmas.List.FromFn.{get_or-map-range_with_len}
 use Rattle.terms.proofs.RangeLemmas.{sums_same, alls_same}
 use Rattle.plp_config.specs.Capacity.{block_bytes}
-use Rattle.plp_config.specs.Emission.{emission}
 use Rattle.plp_config.specs.Places.{places}
 use Rattle.plp_config.specs.Plps.{plp_at}
-use Rattle.plp_config.specs.Tables.{bw}
 use Rattle.plp_config.specs.declared.config.Config.{Config}
 use Rattle.linked_pool.specs.Pool.{chunks_for}
 use Rattle.scheduler.specs.Shape.{FrameShape}
@@ -21,7 +19,7 @@ use Rattle.t2mi_packet.specs.declared.packet.Packet.{Packet}
 use Rattle.t2mi_packet.specs.declared.packet.Stamp.{Stamp}
 use Rattle.frame_groups.specs.Modulated.{Numbered}
 use Rattle.frame_groups.specs.declared.cause.MuteCause.TheVariants.{PacketMissing, L1Refused, PoolFull}
-use Rattle.frame_groups.specs.Carried.{body_block, has_length, blocks_of, right_blocks, L1Parts, body_l1, l1s_of}
+use Rattle.frame_groups.specs.Carried.{body_block, blocks_of, right_blocks, L1Parts, body_l1, l1s_of}
 use Rattle.frame_groups.specs.Carried.{body_stamp, stamps_of}
 use Rattle.frame_groups.specs.TestLaws.{TestsAreTallied, TallyGrows}
 use Rattle.frame_groups.specs.Tally.{Tally, all_alike, is_unlike, first_unlike, tally, alike_behind, unlike_behind}
@@ -47,10 +45,7 @@ block_count_more c packets p plp = ap length (blocks_more c packets p plp) ∙ l
 right_count_more : (c : Config) (packets : List Packet) (p : Packet) (plp : ℕ)
     → length (right_blocks c plp (packets ++ p ∷ [])) ≡ length (right_blocks c plp packets) + length
     (right_blocks c plp (p ∷ []))
-right_count_more c packets p plp =
-    ap (λ (l : List (List Bool)). length (filter (has_length c plp) l)) (blocks_more c packets p plp)
-    ∙ ap length (filter-append (has_length c plp) (blocks_of c plp packets) (blocks_of c plp (p ∷ [])))
-    ∙ length-append (right_blocks c plp packets) (right_blocks c plp (p ∷ []))
+right_count_more c packets p plp = grind (arith, blocks_more, filter-append, length-append)
 
 first_more : {X : Type 0} (xs ys : List X) → slice_get (xs ++ ys) 0 ≡ option_or (slice_get xs 0) (slice_get ys 0)
 first_more [] ys = refl
@@ -86,10 +81,7 @@ maps_same f g count h a (suc k) l = ap₂ (λ (x : ℕ) (xs : List ℕ). x ∷ x
 
 counts_more : (c : Config) (old more new : ℕ → ℕ) → ((plp : ℕ) → new plp ≡ old plp + more plp) → map new (places c)
     ≡ map (λ plp. slice_index (map old (places c)) plp + more plp) (places c)
-counts_more c old more new h =
-    maps_same new (λ plp. slice_index (map old (places c)) plp + more plp) (length c.plps)
-    (λ plp inside. h plp ∙ ap (λ (k : ℕ). k + more plp) (sym (at_place c old plp inside))) 0 (length c.plps)
-    (omega arith)
+counts_more c old more new h = grind (arith, maps_same, at_place)
 
 made : (right other blocks others : List ℕ) (l m : Option L1Parts) (a b : Bool) (s t u v : Option Stamp) (x y : Bool)
     → right ≡ other → blocks ≡ others → l ≡ m → a ≡ b → s ≡ t → u ≡ v → x ≡ y
@@ -154,17 +146,7 @@ l1_is c n packets = ap (λ (t : Bool). unless t L1Refused) (parts_is c n (l1s_of
 
 -- if the first timestamp agrees, the others agree if they are like it
 agrees_like : (c : Config) (n : ℕ) (s t : Stamp) → stamp_agrees c n s ≡ true → not (stamp_agrees c n t) ≡ is_unlike s t
-agrees_like c n s t e =
-    let first = and_parts ((s.bw == bw c.band) && (s.seconds == (emission c n).seconds))
-    (s.subseconds == (emission c n).subseconds) e in
-    let second = and_parts (s.bw == bw c.band) (s.seconds == (emission c n).seconds) first.0 in
-    ap (λ (k : ℕ). not ((t.bw == k) && (t.seconds == (emission c n).seconds)
-    && (t.subseconds == (emission c n).subseconds)))
-    (sym (eqb-true s.bw (bw c.band) second.0))
-    ∙ ap (λ (k : ℕ). not ((t.bw == s.bw) && (t.seconds == k) && (t.subseconds == (emission c n).subseconds)))
-    (sym (eqb-true s.seconds (emission c n).seconds second.1))
-    ∙ ap (λ (k : ℕ). not ((t.bw == s.bw) && (t.seconds == s.seconds) && (t.subseconds == k)))
-    (sym (eqb-true s.subseconds (emission c n).subseconds first.1))
+agrees_like c n s t e = grind (arith, and_parts, eqb-true)
 
 found_same : (f g : Stamp → Bool) → ((t : Stamp) → f t ≡ g t) → (stamps : List Stamp) → find f stamps ≡ find g stamps
 found_same f g h [] = refl
@@ -212,8 +194,4 @@ map_is c packets = refl
 
 pub tests_tallied : TestsAreTallied
 unfolding packets_fault tally_fault
-tests_tallied c past n packets =
-    ap₂ option_or (pool_is c past n packets)
-    (ap₂ option_or (missing_is c n packets)
-    (ap₂ option_or (l1_is c n packets)
-    (ap₂ option_or (time_is c n packets) (ap₂ option_or (blocks_is c past n packets) (map_is c packets)))))
+tests_tallied c past n packets = grind (arith, ap₂, pool_is, missing_is, l1_is, time_is, blocks_is, map_is)
