@@ -36,10 +36,7 @@ one_whole bytes rest e = let g = guard_some (ltb (length bytes) (block_len bytes
 pub first_whole : (n : ℕ) (bytes rest : List ℕ) → skip_blocks (suc n) bytes ≡ Some rest
     → (block_len bytes ≤ length bytes)
     × (skip_blocks n (drop (block_len bytes) bytes) ≡ Some rest)
-first_whole n bytes rest e =
-    let b = bind_some (skip_block bytes) (skip_blocks n) rest e in
-    let w = one_whole bytes b.0 b.1 in
-    (w.0, ap (skip_blocks n) w.1 ∙ b.2)
+first_whole n bytes rest e = grind (arith, bind_some, one_whole)
 
 pub length-blocks_in : (n : ℕ) (bytes : List ℕ) → length (blocks_in n bytes) ≡ n
 length-blocks_in zero bytes = refl

@@ -104,24 +104,12 @@ heads_pass (suc n) bytes piece part left now some is (len, long, tells, behind) 
 
 pub passes : (f g : RecordCount) (piece came : List ℕ) → 0 < f.left → g.left + length piece ≡ f.left → g.head ≡ f.head
     → g.count ≡ f.count → RecordCountStandsFor f came → RecordCountStandsFor g (came ++ piece)
-passes f g piece came some left head count s = record {
-  heads = s.heads;
-  has = subst (λ (l : List ℕ). HasHeads s.heads (came ++ piece) l g.left) (sym head)
-      (heads_pass s.heads came piece f.head f.left g.left some left s.has);
-  count = count ∙ s.count;
-}
+passes f g piece came some left head count s = grind (arith, heads_pass)
 
 pub part_came : (f g : RecordCount) (piece came : List ℕ) → f.left ≡ 0 → g.left ≡ 0 → g.head ≡ f.head ++ piece
     → length g.head < head_len → g.count ≡ f.count → RecordCountStandsFor f came
     → RecordCountStandsFor g (came ++ piece)
-part_came f g piece came was none head few count s = record {
-  heads = s.heads;
-  has = subst (λ (k : ℕ). HasHeads s.heads (came ++ piece) g.head k) (sym none)
-      (subst (λ (l : List ℕ). HasHeads s.heads (came ++ piece) l 0) (sym head)
-      (heads_part s.heads came piece f.head (subst (HasHeads s.heads came f.head) was s.has)
-      (subst (λ (l : List ℕ). length l < head_len) head few)));
-  count = count ∙ s.count;
-}
+part_came f g piece came was none head few count s = grind (arith, heads_part)
 
 capped : (n count next : ℕ) → count ≡ min n greatest_count → next ≡ min (count + 1) greatest_count
     → next ≡ min (n + 1) greatest_count

@@ -5,7 +5,7 @@ use Rattle.std.proofs.Common.{take, take-append-drop, ◌≢◌, ◌∙◌, inl,
 use Rattle.std.specs.Prelude.{Result, Ok}
 use Rattle.site_frame.specs.Laws.{NoRefusal}
 use Rattle.site_frame.specs.Record.{head_len}
-use Rattle.site_frame.specs.RecordFile.{AreRecords, Announces, IsBegun, EndsWithin, IsNoRecord}
+use Rattle.site_frame.specs.RecordFile.{AreRecords, Announces, IsBegun, EndsWithin}
 use Rattle.site_frame.specs.Whole.{BeginsWith, Follow, Refuses, RefusesHead}
 use Rattle.site_frame.specs.declared.fault.RecordWhy.{RecordWhy}
 use Rattle.site_frame.specs.declared.fault.RecordWhy.TheVariants as why
@@ -55,13 +55,7 @@ more_stands : (f g : RecordFeed) (views : List RecordView) (came piece : List �
     → g.at ≡ f.at + length piece → g.count ≡ f.count → Behind g.coming g.head g.bytes.items g.left (s.rest ++ piece)
     ended
     → RecordFeedStandsFor g views (came ++ piece) ended
-more_stands f g views came piece ended s at count behind = record {
-  rest = s.rest ++ piece;
-  records = records_on came piece s.rest views s.records;
-  size = (let z = s.size in let sum = length-append came piece in omega (arith, at, z, sum));
-  number = count ∙ s.number;
-  behind = behind;
-}
+more_stands f g views came piece ended s at count behind = grind (arith, records_on, length-append)
 
 -- bytes of a head, but not all
 pub head_part : (f g : RecordFeed) (views : List RecordView) (came piece : List ℕ) (ended : Bool) → f.coming ≡ Head
@@ -94,11 +88,7 @@ head_whole f g views came piece whole ended heads at count none is behind s =
 
 begun_more : (rest piece : List ℕ) (left now : ℕ) → IsBegun rest left → now + length piece ≡ left
     → IsBegun (rest ++ piece) now
-begun_more rest piece left now b is = record {
-  len = b.len;
-  announces = announces_on rest piece b.len b.announces;
-  lacks = (let sum = length-append rest piece in let l = b.lacks in omega (arith, sum, l, is));
-}
+begun_more rest piece left now b is = grind (arith, announces_on, length-append)
 
 -- bytes of a rest, but not all
 pub rest_part : (f g : RecordFeed) (views : List RecordView) (came piece : List ℕ) (ended : Bool) → f.coming ≡ Rest
@@ -175,26 +165,13 @@ refused f g views came ended why whole comes at count none refuses s =
 ends_refused : (rest : List ℕ) (left : ℕ) (why : RecordWhy) → 0 < length rest → Refuses rest why
     → EndsWithin rest (length rest)
     → StandsRefused why left rest true
-ends_refused rest left why some refuses within = record {
-  refuses = λ more end.
-      let same : rest ++ more ≡ rest = ap (λ (l : List ℕ). rest ++ l) (end refl) ∙ append-nil rest in
-      subst (λ (l : List ℕ). IsNoRecord l why) (sym same)
-      ((λ e. let n = ap length e in absurd (omega (arith, n, some))), refuses);
-  within = within;
-  none = inr refl;
-}
+ends_refused rest left why some refuses within = grind (arith, append-nil)
 
 end_stands : (f g : RecordFeed) (views : List RecordView) (came : List ℕ) (ended : Bool)
     (s : RecordFeedStandsFor f views came ended)
     → g.at ≡ f.at → g.count ≡ f.count → Behind g.coming g.head g.bytes.items g.left s.rest true
     → RecordFeedStandsFor g views came true
-end_stands f g views came ended s at count behind = record {
-  rest = s.rest;
-  records = s.records;
-  size = at ∙ s.size;
-  number = count ∙ s.number;
-  behind = behind;
-}
+end_stands f g views came ended s at count behind = grind arith
 
 -- within the rest of a record
 pub ends_in_rest : (f g : RecordFeed) (views : List RecordView) (came : List ℕ) (ended : Bool) → f.coming ≡ Rest
@@ -221,11 +198,7 @@ is_read view = Ok view
 
 -- what was read of the same bytes is the same record
 pub same_view : (v w : RecordView) (n m : ℕ) (a b : Read) → a ≡ Ok (v, n) → b ≡ Ok (w, m) → a ≡ b → v ≡ w
-same_view v w n m a b is other same =
-    let x : RecordView × ℕ = (v, n) in
-    let y : RecordView × ℕ = (w, m) in
-    let pair : x ≡ y = cc in
-    ap (λ (x : RecordView × ℕ). x.0) pair
+same_view v w n m a b is other same = grind arith
 
 -- ---- laws
 

@@ -2,8 +2,7 @@
 use Rattle.std.proofs.Common.{◌≡◌, ℕ, zero, suc, ◌+◌, ◌*◌, ◌/◌, ◌%◌, ◌^◌, ◌<◌, ◌≤◌, ◌==◌, false, ltb, List, [], ◌∷◌}
 use Rattle.std.proofs.Common.{◌++◌, length}
 use Rattle.std.proofs.Common.{get_or, take, drop, Option, Some, None, refl, sym, ap, ap₂, subst, ◌∙◌, append_assoc}
-use Rattle.std.proofs.Common.{arith, inl}
-use Rattle.std.proofs.Common.{inr}
+use Rattle.std.proofs.Common.{arith}
 use Rattle.std.specs.Prelude.{slice_index}
 use Rattle.std.specs.List.{flat_map, AllByRecursion}
 use Rattle.std.proofs.lemmas.Bool.{cases_lt, ltb-false, le-ltb, cond-true, cond-false}
@@ -13,7 +12,7 @@ use Rattle.std.proofs.lemmas.List.{drop-drop}
 use Rattle.std.proofs.lemmas.List.{drop_all, append-nil, get_or-drop, get_or-take, get_or_past}
 use Rattle.std.proofs.lemmas.Nat.{be_bytes_2, be_bytes_4, be_bytes_8, div-mul-add, mod-mul-add}
 use Rattle.byteorder.specs.Endian.{big_number, big_bytes}
-use Rattle.byteorder.specs.Numbers.{big_number-reads_back, length-bytes_high_first, big_from-take}
+use Rattle.byteorder.specs.Numbers.{big_number-reads_back, length-bytes_high_first}
 use Rattle.site_frame.specs.Record.{Block, FitsBlock, FitsCell, block_bytes, blocks_bytes, dummy_word, word_of, cell_of}
 use Rattle.site_frame.specs.Record.{cell_bytes}
 use Rattle.cell_map.specs.declared.places.Cell.{Cell}
@@ -29,11 +28,7 @@ pub IsBytes-drop : (n : ℕ) (bytes : List ℕ) → IsBytes bytes → IsBytes (d
 IsBytes-drop n bytes h i = rw get_or-drop (h (n + i))
 
 pub IsBytes-take : (n : ℕ) (bytes : List ℕ) → IsBytes bytes → IsBytes (take n bytes)
-IsBytes-take n bytes h i =
-    elim (cases_lt i n) [
-      | inl lt ↦ rw (get_or-take n bytes i 0 lt) (h i)
-      | inr le ↦ rw (get_or_past (take n bytes) i 0 (omega (arith, length-take n bytes))) (omega arith)
-    ]
+IsBytes-take n bytes h i = grind (arith, cases_lt, get_or-take, get_or_past, length-take)
 
 abbrev some_of : {A : Type 0} → A → Option A
 some_of x = Some x
@@ -44,9 +39,7 @@ some_same x y e = cc
 -- ---- written, then read
 
 pub cut_again : (n : ℕ) (front rest : List ℕ) → length front ≡ n → cut n (front ++ rest) ≡ Some (front, rest)
-cut_again n front rest e =
-    let long : ltb (length (front ++ rest)) n ≡ false = le-ltb _ _ (omega (arith, e, length-append front rest)) in
-    rw (long, take_at front rest n e, drop_at front rest n e) refl
+cut_again n front rest e = grind (arith, ltb, le-ltb, length-append, take_at, drop_at)
 
 pub number_again : (n x : ℕ) (rest : List ℕ) → x < 256 ^ n → number n (big_bytes n x ++ rest) ≡ Some (x, rest)
 number_again n x rest lt =
@@ -114,10 +107,7 @@ abbrev the_cell : ℕ → ℕ → Cell
 the_cell ordinal cell = record { ordinal = ordinal; cell = cell }
 
 not_equal : (a b : ℕ) → a < b → (a == b) ≡ false
-not_equal a b lt = elim (eqb_tells a b) [
-  | inl p ↦ absurd (omega (arith, lt, p.1))
-  | inr p ↦ p.0
-]
+not_equal a b lt = grind (arith, eqb_tells)
 
 -- a cell that fits its word is read again
 pub word_again : (cell : Option Cell) → FitsCell cell → (word_of cell < 256 ^ 4) × (cell_of (word_of cell) ≡ cell)
@@ -130,11 +120,7 @@ word_again (Some cell) h =
 
 -- and a word spells a cell that is written so
 pub cell_taken : (word : ℕ) → word < 256 ^ 4 → FitsCell (cell_of word) × (word_of (cell_of word) ≡ word)
-cell_taken word small = elim (eqb_tells word dummy_word) [
-  | inl p ↦ (let e : cell_of word ≡ None = cond-true _ _ _ p.0 in (subst FitsCell (sym e) tt, ap word_of e ∙ sym p.1))
-  | inr p ↦ (let e : cell_of word ≡ Some (the_cell (word / 32768) (word % 32768)) = cond-false _ _ _ p.0 in
-      (subst FitsCell (sym e) (omega arith, omega (arith, small, p.1)), ap word_of e ∙ omega arith))
-]
+cell_taken word small = grind (arith, eqb_tells, cond-true, cond-false)
 
 pub length-cells : (cells : List (Option Cell)) → length (flat_map cell_bytes cells) ≡ 4 * length cells
 length-cells [] = refl
@@ -197,31 +183,13 @@ IsWide n = (bytes : List ℕ) → IsBytes bytes → n ≤ length bytes → (big_
     × (big_number n bytes < 256 ^ n)
 
 pub wide2 : IsWide 2
-wide2 bytes fits long =
-    let t = take 2 bytes in
-    let same : big_number 2 bytes ≡ big_number 2 t = sym (big_from-take 0 2 2 bytes (omega arith)) in
-    let ft = IsBytes-take 2 bytes fits in (
-      be_bytes_2 t (big_number 2 bytes) (omega (arith, long, length-take 2 bytes)) ft (same ∙ omega arith),
-      omega (arith, fits 0, fits 1),
-    )
+wide2 bytes fits long = grind (arith, IsBytes-take, be_bytes_2, length-take)
 
 pub wide4 : IsWide 4
-wide4 bytes fits long =
-    let t = take 4 bytes in
-    let same : big_number 4 bytes ≡ big_number 4 t = sym (big_from-take 0 4 4 bytes (omega arith)) in
-    let ft = IsBytes-take 4 bytes fits in (
-      be_bytes_4 t (big_number 4 bytes) (omega (arith, long, length-take 4 bytes)) ft (same ∙ omega arith),
-      omega (arith, fits 0, fits 1, fits 2, fits 3),
-    )
+wide4 bytes fits long = grind (arith, IsBytes-take, be_bytes_4, length-take)
 
 pub wide8 : IsWide 8
-wide8 bytes fits long =
-    let t = take 8 bytes in
-    let same : big_number 8 bytes ≡ big_number 8 t = sym (big_from-take 0 8 8 bytes (omega arith)) in
-    let ft = IsBytes-take 8 bytes fits in (
-      be_bytes_8 t (big_number 8 bytes) (omega (arith, long, length-take 8 bytes)) ft (same ∙ omega arith),
-      omega (arith, fits 0, fits 1, fits 2, fits 3, fits 4, fits 5, fits 6, fits 7),
-    )
+wide8 bytes fits long = grind (arith, IsBytes-take, be_bytes_8, length-take)
 
 pub record NumberTakes (n : ℕ) (bytes : List ℕ) (x : ℕ) (rest : List ℕ) : Type 0 where
   pub small : x < 256 ^ n

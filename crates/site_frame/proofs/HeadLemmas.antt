@@ -38,32 +38,10 @@ told_on bytes more long =
     (omega (arith, n, long))
 
 pub head_on : (bytes more : List ℕ) → head_len ≤ length bytes → HasHead bytes → HasHead (bytes ++ more)
-head_on bytes more long h =
-    let at = same_at bytes more long in
-    record {
-      whole = omega (arith, long, length-append bytes more);
-      first = at 0 (omega arith) ∙ h.first;
-      second = at 1 (omega arith) ∙ h.second;
-      third = at 2 (omega arith) ∙ h.third;
-      fourth = at 3 (omega arith) ∙ h.fourth;
-      zero0 = at 5 (omega arith) ∙ h.zero0;
-      zero1 = at 6 (omega arith) ∙ h.zero1;
-      zero2 = at 7 (omega arith) ∙ h.zero2;
-    }
+head_on bytes more long h = grind (arith, same_at, length-append)
 
 pub head_back : (bytes more : List ℕ) → head_len ≤ length bytes → HasHead (bytes ++ more) → HasHead bytes
-head_back bytes more long h =
-    let at = same_at bytes more long in
-    record {
-      whole = long;
-      first = sym (at 0 (omega arith)) ∙ h.first;
-      second = sym (at 1 (omega arith)) ∙ h.second;
-      third = sym (at 2 (omega arith)) ∙ h.third;
-      fourth = sym (at 3 (omega arith)) ∙ h.fourth;
-      zero0 = sym (at 5 (omega arith)) ∙ h.zero0;
-      zero1 = sym (at 6 (omega arith)) ∙ h.zero1;
-      zero2 = sym (at 7 (omega arith)) ∙ h.zero2;
-    }
+head_back bytes more long h = grind (arith, same_at)
 
 abbrev IsKind : ℕ → Type 0
 IsKind kind = (kind ≡ 1) ⊎ (kind ≡ 2)
@@ -155,14 +133,7 @@ abbrev zeros_frame : Moment → ℕ → RecordView
 zeros_frame moment rest = Frame moment (replicate 200 false) (replicate (8 * (rest - 35)) false) [] []
 
 zeros_fit : (moment : Moment) (rest : ℕ) → rest ≤ greatest_rest → FitsRest (zeros_frame moment rest)
-zeros_fit moment rest small = record {
-  pre = length-replicate 200 false;
-  post = omega (arith, length-replicate (8 * (rest - 35)) false, small);
-  blocks = omega arith;
-  block = tt;
-  cells = omega arith;
-  cell = tt;
-}
+zeros_fit moment rest small = grind (arith, length-replicate)
 
 zeros_len : (moment : Moment) (rest : ℕ) → least_rest ≤ rest → record_len (zeros_frame moment rest) ≡ 24 + rest
 zeros_len moment rest least = omega (arith, length-replicate (8 * (rest - 35)) false, least)

@@ -16,9 +16,9 @@ use Rattle.byteorder.specs.Numbers.{length-bytes_high_first}
 use Rattle.terms.specs.Bits.{number_of, byte_at, bytes_of, bytes_for}
 use Rattle.terms.proofs.BitLemmas.{length-bytes_of, number_of-append}
 use Rattle.terms.proofs.PartLemmas.{number_of-zeros}
-use Rattle.site_frame.specs.Record.{Block, head_len, head_bytes, block_bytes, blocks_bytes, cell_bytes}
+use Rattle.site_frame.specs.Record.{Block, head_len, block_bytes, blocks_bytes, cell_bytes}
 use Rattle.site_frame.specs.Rest.{rest_bytes, FitsFrame, IsRest}
-use Rattle.site_frame.specs.Whole.{greatest_rest, kind_of, moment_of, HasRest, Spells, BeginsWith, Refuses}
+use Rattle.site_frame.specs.Whole.{greatest_rest, HasRest, BeginsWith, Refuses}
 use Rattle.site_frame.specs.Whole.{written_rest}
 use Rattle.site_frame.specs.Whole.{block_size, record_len, FitsRest, HasHead, HasKind, told_moment, told_len, told_rest}
 use Rattle.site_frame.specs.Whole.{view_in}
@@ -35,11 +35,7 @@ use Rattle.site_frame.proofs.FieldLemmas.{length-cells}
 use Rattle.site_frame.proofs.WholeLemmas.{begun, read_of, one_read, refused, length_of}
 
 pub written_is_read : WrittenIsRead
-written_is_read view front more s =
-    record {
-      inside = omega (arith, length-append front more);
-      spells = subst (Spells view) (sym (take_at front more (length front) refl)) s;
-    }
+written_is_read view front more s = grind (arith, length-append, take_at)
 
 pub one_record : OneRecord
 one_record v w front other more rest s t e =
@@ -60,13 +56,7 @@ no_refusal view front more Order s h = h
 no_refusal view front more OffGrid s h = h
 
 eq_or : (a b : ℕ) → (a ≡ b) ⊎ (a ≢ b)
-eq_or a b = elim (cases_lt a b) [
-  | inl lt ↦ inr (λ e. absurd (omega (arith, lt, e)))
-  | inr le ↦ elim (cases_lt b a) [
-    | inl lt ↦ inr (λ e. absurd (omega (arith, lt, e)))
-    | inr ge ↦ inl (omega (arith, le, ge))
-  ]
-]
+eq_or a b = grind (arith, cases_lt)
 
 and_or : {A B : Type 0} → A ⊎ (¬ A) → B ⊎ (¬ B) → (A × B) ⊎ (¬ (A × B))
 and_or (inl a) (inl b) = inl (a, b)
@@ -74,32 +64,13 @@ and_or (inl a) (inr b) = inr (λ p. b p.1)
 and_or (inr a) b = inr (λ p. a p.0)
 
 le_or : (a b : ℕ) → (a ≤ b) ⊎ (¬ (a ≤ b))
-le_or a b = elim (cases_lt b a) [
-  | inl lt ↦ inr (λ le. absurd (omega (arith, lt, le)))
-  | inr le ↦ inl le
-]
+le_or a b = grind (arith, cases_lt)
 
 head_or : (bytes : List ℕ) → HasHead bytes ⊎ (¬ (HasHead bytes))
-head_or bytes =
-    let at : (k byte : ℕ) → (slice_index bytes k ≡ byte) ⊎ (slice_index bytes k ≢ byte) =
-    λ k byte. eq_or (slice_index bytes k) byte in
-    elim (and_or (le_or 24 (length bytes))
-    (and_or (at 0 0x54)
-    (and_or (at 1 0x32) (and_or (at 2 0x46) (and_or (at 3 0x52) (and_or (at 5 0) (and_or (at 6 0) (at 7 0)))))))) [
-      | inl (w, (a, (b, (c, (d, (x, (y, z))))))) ↦
-          inl (record { whole = w; first = a; second = b; third = c; fourth = d; zero0 = x; zero1 = y; zero2 = z })
-      | inr none ↦ inr (λ h. none
-          (h.whole, (h.first, (h.second, (h.third, (h.fourth, (h.zero0, (h.zero1, h.zero2))))))))
-    ]
+head_or bytes = grind (arith, eq_or, and_or, le_or)
 
 kind_or : (bytes : List ℕ) → HasKind bytes ⊎ (¬ (HasKind bytes))
-kind_or bytes = elim (eq_or (slice_index bytes 4) 1) [
-  | inl one ↦ inl (inl one)
-  | inr not1 ↦ elim (eq_or (slice_index bytes 4) 2) [
-    | inl two ↦ inl (inr two)
-    | inr not2 ↦ inr (λ h. elim h [ inl e ↦ not1 e | inr e ↦ not2 e ])
-  ]
-]
+kind_or bytes = grind (arith, eq_or)
 
 record Taken (bytes : List ℕ) : Type 0 where
   pub view : RecordView
@@ -126,14 +97,7 @@ view_or bytes (Some view) e head kind small inside =
 view_or bytes None e head kind small inside = inr (head, kind, inr (inr e))
 
 length_or : (bytes : List ℕ) → HasHead bytes → HasKind bytes → Taken bytes ⊎ IsRefused bytes Length
-length_or bytes head kind = elim (cases_lt greatest_rest (told_len bytes)) [
-  | inl long ↦ inr (head, kind, inl long)
-  | inr small ↦ elim (cases_lt (length bytes) (24 + told_len bytes)) [
-    | inl short ↦ inr (head, kind, inr (inl short))
-    | inr inside ↦ view_or bytes (view_in (slice_index bytes 4) (told_moment bytes) (told_rest bytes))
-        refl head kind small inside
-  ]
-]
+length_or bytes head kind = grind (arith, cases_lt, view_or)
 
 pub spelled_or_refused : SpelledOrRefused
 spelled_or_refused bytes fits = elim (head_or bytes) [
@@ -201,42 +165,10 @@ rest_len : (p : FrameParts) (pad : List Bool) (ignored : List ℕ) → length p.
     ≡ bytes_for (length p.post)
     → length (rest_bytes p pad ignored) ≡ 25 + (4 + bytes_for (length p.post)) + (2 + sum_by block_size p.blocks)
     + (4 + 4 * length p.cells)
-rest_len p pad ignored pre same =
-    let s1 : List ℕ = big_bytes 4 (length p.post) ++ bytes_of (p.post ++ pad) in
-    let s2 : List ℕ = big_bytes 2 (length p.blocks) ++ blocks_bytes p.blocks ignored in
-    let s3 : List ℕ = big_bytes 4 (length p.cells) ++ flat_map cell_bytes p.cells in
-    let l0 : length (bytes_of p.pre) ≡ 25 = length-bytes_of p.pre ∙ ap bytes_for pre in
-    let l1 : length s1 ≡ 4 + bytes_for (length p.post) =
-    length-append (big_bytes 4 (length p.post)) (bytes_of (p.post ++ pad))
-    ∙ ap₂ (λ (m n : ℕ). m + n) (length-bytes_high_first 4 (length p.post)) (length-bytes_of (p.post ++ pad) ∙ same) in
-    let l2 : length s2 ≡ 2 + sum_by block_size p.blocks =
-    length-append (big_bytes 2 (length p.blocks)) (blocks_bytes p.blocks ignored)
-    ∙ ap₂ (λ (m n : ℕ). m + n) (length-bytes_high_first 2 (length p.blocks)) (length-blocks p.blocks ignored) in
-    let l3 : length s3 ≡ 4 + 4 * length p.cells =
-    length-append (big_bytes 4 (length p.cells)) (flat_map cell_bytes p.cells)
-    ∙ ap₂ (λ (m n : ℕ). m + n) (length-bytes_high_first 4 (length p.cells)) (length-cells p.cells) in
-    omega (
-      arith,
-      length-append (bytes_of p.pre) (s1 ++ (s2 ++ (s3 ++ []))),
-      length-append s1 (s2 ++ (s3 ++ [])),
-      length-append s2 (s3 ++ []),
-      length-append {A = ℕ} s3 [],
-      l0,
-      l1,
-      l2,
-      l3,
-    )
+rest_len p pad ignored pre same = grind (arith, length-bytes_of, length-append, ap₂, length-blocks, length-cells)
 
 pub head_length : HeadLength
-head_length kind moment rest =
-    omega (
-      arith,
-      length-append (big_bytes 8 moment.seconds) (big_bytes 4 moment.subseconds ++ big_bytes 4 rest),
-      length-append (big_bytes 4 moment.subseconds) (big_bytes 4 rest),
-      length-bytes_high_first 8 moment.seconds,
-      length-bytes_high_first 4 moment.subseconds,
-      length-bytes_high_first 4 rest,
-    )
+head_length kind moment rest = grind (arith, length-append)
 
 filled : (a b : ℕ) → b < 8 → (a + b) % 8 ≡ 0 → (a + b + 7) / 8 ≡ (a + 7) / 8
 filled a b short whole = omega arith
@@ -251,11 +183,7 @@ has_len (Frame moment pre post blocks cells) rest h =
 has_len (Muted moment) rest h = ap (λ (xs : List ℕ). head_len + length xs) h
 
 pub spelled_length : SpelledLength
-spelled_length view bytes s =
-    ap (λ (xs : List ℕ). length xs) s.spelled
-    ∙ length-append (head_bytes (kind_of view) (moment_of view) (length s.rest)) s.rest
-    ∙ ap (λ (n : ℕ). n + length s.rest) (head_length (kind_of view) (moment_of view) (length s.rest))
-    ∙ has_len view s.rest s.parts
+spelled_length view bytes s = grind (arith, length-append, head_length, has_len)
 
 -- ---- as it is written
 

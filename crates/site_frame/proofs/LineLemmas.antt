@@ -1,9 +1,9 @@
 -- Lines and strips of words are those of the map.
-use Rattle.std.proofs.Common.{◌≡◌, ℕ, zero, suc, ◌+◌, ◌-◌, ◌*◌, ◌/◌, ◌%◌, ◌<◌, ◌≤◌, ◌==◌, Bool, true, false, List, []}
-use Rattle.std.proofs.Common.{◌∷◌, ◌++◌}
+use Rattle.std.proofs.Common.{◌≡◌, ℕ, zero, suc, ◌+◌, ◌-◌, ◌*◌, ◌<◌, ◌≤◌, List}
+use Rattle.std.proofs.Common.{◌++◌}
 use Rattle.std.proofs.Common.{length, take, drop, Option, Some}
 use Rattle.std.proofs.Common.{None, refl, ap, ap₂, sym, ◌∙◌, arith, append_assoc, append-nil}
-use Rattle.std.specs.Prelude.{slice_get, unwrap_or, if◌then◌else◌}
+use Rattle.std.specs.Prelude.{slice_get}
 use Rattle.std.specs.FinMap.{get}
 use Rattle.std.specs.List.{flat_map, range_with_len}
 use Rattle.std.proofs.lemmas.Grind.{flat_map-append}
@@ -23,7 +23,7 @@ use Rattle.cell_map.specs.declared.places.Cell.{Cell}
 use Rattle.cell_map.specs.declared.strips.Strip.{Strip}
 use Rattle.cell_map.specs.declared.strips.Stretch.{Stretch}
 use Rattle.cell_map.specs.declared.strips.Stretch.TheVariants.{Dummy, Blocks}
-use Rattle.site_frame.specs.Record.{FitsCell, cell_bytes, cell_of, word_of, block_words, dummy_word}
+use Rattle.site_frame.specs.Record.{FitsCell, cell_bytes, cell_of, word_of, dummy_word}
 use Rattle.site_frame.specs.Reading.{cells_in}
 use Rattle.site_frame.proofs.BlockLemmas.{cell_at}
 use Rattle.site_frame.proofs.FieldLemmas.{word_again}
@@ -33,9 +33,7 @@ use Rattle.site_frame.proofs.WordLemmas.{word_at, words_split, words_more, lengt
 
 -- ---- one more
 flat_more : (f : ℕ → List ℕ) (n : ℕ) → flat_map f (range_with_len 0 (n + 1)) ≡ flat_map f (range_with_len 0 n) ++ f n
-flat_more f n =
-    ap (flat_map f) (places_more n) ∙ flat_map-append f (range_with_len 0 n) (n ∷ [])
-    ∙ ap (λ (l : List ℕ). flat_map f (range_with_len 0 n) ++ l) (append-nil (f n))
+flat_more f n = grind (arith, places_more, flat_map-append, append-nil)
 
 pub line_more : (word stride n : ℕ) → line_bytes word stride (n + 1) ≡ line_bytes word stride n
     ++ big_bytes 4 (word + n * stride)
@@ -73,13 +71,7 @@ block_line : (c : Config) (shape : FrameShape) (frame : ℕ) (address : ℕ) (st
     ≡ Some (record { ordinal = strip.first.ordinal + b; cell = strip.first.cell + z * strip.stride }))
     → words c shape frame (address + strip.columns * b) strip.columns ≡ line_bytes (first_word strip b)
     strip.stride strip.columns
-block_line c shape frame address strip b h =
-    line_words c shape frame (address + strip.columns * b) (first_word strip b) strip.stride strip.columns
-    (λ z l.
-    let at : address + strip.columns * b + z ≡ address + (strip.columns * b + z) = omega arith in
-    let word : (strip.first.ordinal + b) * block_words + (strip.first.cell + z * strip.stride) ≡ first_word strip b + z
-    * strip.stride = omega arith in
-    ap (word_at c shape frame) at ∙ ap cell_bytes (h z l) ∙ ap (big_bytes 4) word)
+block_line c shape frame address strip b h = grind (arith, line_words, word_at)
 
 blocks_words : (c : Config) (shape : FrameShape) (frame : ℕ) (address : ℕ) (strip : Strip) (n : ℕ)
     → ((b z : ℕ) → b < n → z
@@ -108,9 +100,7 @@ strip_words c shape frame address strip h = blocks_words c shape frame address s
 pub dummy_words : (c : Config) (shape : FrameShape) (frame : ℕ) (address n : ℕ)
     → ((i : ℕ) → i < n → get (cell_map c shape frame) (address + i) ≡ None) → words c shape frame address n
     ≡ line_bytes dummy_word 0 n
-dummy_words c shape frame address n h =
-    line_words c shape frame address dummy_word 0 n (λ z l. let same : dummy_word ≡ dummy_word + z * 0 = omega arith in
-    ap cell_bytes (h z l) ∙ ap (big_bytes 4) same)
+dummy_words c shape frame address n h = grind (arith, line_words)
 
 -- ---- small numbers
 pub stretch_fits : CellsFit → (c : Config) (shape : FrameShape) (frame : ℕ) (address : ℕ) (stretch : Stretch) → IsPlan c
@@ -173,26 +163,11 @@ pub agreed : CellsFit → (c : Config) (shape : FrameShape) (frame : ℕ) (addre
     ≡ big_number 4 (drop (4 * i) (drop (4 * address) bytes))
     → slice_get cells (address + i) ≡ Some (get (cell_map c shape frame) (address + i))
 agreed law c shape frame address n i cells bytes buffer plan passes l inside e f same =
-    let o : Option Cell = get (cell_map c shape frame) (address + i) in
-    let d : drop (4 * i) (drop (4 * address) bytes) ≡ drop (4 * (address + i)) bytes = drop-drop (4 * i)
-    (4 * address) bytes
-    ∙ ap (λ (m : ℕ). drop m bytes) (omega arith) in
-    let word : big_number 4 (drop (4 * (address + i)) bytes) ≡ word_of o =
-    ap (big_number 4) (sym d) ∙ sym same ∙ ap (λ (l : List ℕ). big_number 4 (drop (4 * i) l)) f
-    ∙ word_in law c shape frame address n i plan passes l in
-    ap (λ (l : List (Option Cell)). slice_get l (address + i)) e
-    ∙ cell_at (length cells) (address + i) bytes (omega (arith, l, inside))
-    ∙ ap (λ (w : ℕ). Some (cell_of w)) word
-    ∙ ap Some (word_again o (fits_at law c shape frame (address + i) plan passes o refl)).1
+    grind (arith, Option, drop-drop, word_in, cell_at, word_again, fits_at)
 
 -- a word is told by its cell
 word_back : (w : ℕ) → word_of (cell_of w) ≡ w
-word_back w = go (w == dummy_word) refl
-  where
-    go : (b : Bool) → (w == dummy_word) ≡ b
-        → word_of (if b then None else Some (record { ordinal = w / block_words; cell = w % block_words })) ≡ w
-    go true e = sym (eqb-true w dummy_word e)
-    go false e = let parts = div-add-mod' w block_words in omega (arith, parts)
+word_back w = grind (arith, eqb-true, div-add-mod')
 
 -- a record that has the cell of the map has its word
 pub agrees : CellsFit → (c : Config) (shape : FrameShape) (frame : ℕ) (address n i : ℕ) (cells : List (Option Cell))
@@ -202,13 +177,4 @@ pub agrees : CellsFit → (c : Config) (shape : FrameShape) (frame : ℕ) (addre
     → slice_get cells (address + i) ≡ Some (get (cell_map c shape frame) (address + i))
     → big_number 4 (drop (4 * i) buffer) ≡ big_number 4 (drop (4 * i) (drop (4 * address) bytes))
 agrees law c shape frame address n i cells bytes buffer plan passes l inside e f there =
-    let o : Option Cell = get (cell_map c shape frame) (address + i) in
-    let d : drop (4 * i) (drop (4 * address) bytes) ≡ drop (4 * (address + i)) bytes = drop-drop (4 * i)
-    (4 * address) bytes
-    ∙ ap (λ (m : ℕ). drop m bytes) (omega arith) in
-    let w : ℕ = big_number 4 (drop (4 * (address + i)) bytes) in
-    let found : Some (cell_of w) ≡ Some o = sym (cell_at (length cells) (address + i) bytes (omega (arith, l, inside)))
-    ∙ ap (λ (l : List (Option Cell)). slice_get l (address + i)) (sym e) ∙ there in
-    let same : cell_of w ≡ o = ap (λ (x : Option (Option Cell)). unwrap_or x o) found in
-    ap (λ (l : List ℕ). big_number 4 (drop (4 * i) l)) f ∙ word_in law c shape frame address n i plan passes l
-    ∙ ap word_of (sym same) ∙ word_back w ∙ ap (big_number 4) (sym d)
+    grind (arith, Option, drop-drop, cell_at, word_in, word_back)

@@ -6,17 +6,14 @@ use Rattle.std.proofs.lemmas.List.{take-append-le, take-append-drop, drop-append
 use Rattle.std.proofs.Math.ListN.{drop_of_length-le}
 use Rattle.std.proofs.Math.Seq.{take-length}
 use Rattle.site_frame.specs.Record.{head_len}
-use Rattle.site_frame.specs.Whole.{Spells, BeginsWith, Follow}
+use Rattle.site_frame.specs.Whole.{BeginsWith, Follow}
 use Rattle.site_frame.specs.declared.reading.RecordView.{RecordView}
 use Rattle.site_frame.specs.RecordFile.{AreRecords, Announces}
 
 -- a record that begins a front begins the whole
 pub begins_on : (front more : List ℕ) (view : RecordView) (len : ℕ) → BeginsWith front view len
     → BeginsWith (front ++ more) view len
-begins_on front more view len b = record {
-  inside = (let i = b.inside in omega (arith, i, length-append front more));
-  spells = subst (Spells view) (sym (take-append-le len front more b.inside)) b.spells;
-}
+begins_on front more view len b = grind (arith, length-append, take-append-le)
 
 -- records, and then more bytes
 pub records_on : (file more rest : List ℕ) (views : List RecordView) → AreRecords file views rest

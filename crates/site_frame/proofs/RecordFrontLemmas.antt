@@ -4,8 +4,6 @@ use Rattle.std.proofs.Common.{append_assoc}
 use Rattle.std.proofs.lemmas.List.{take-append-le, take-append-drop, drop-append-le, drop_at, length-append}
 use Rattle.std.proofs.lemmas.List.{length-drop}
 use Rattle.std.proofs.lemmas.List.{length-take-le}
-use Rattle.byteorder.specs.Endian.{big_number, big_bytes}
-use Rattle.byteorder.specs.Numbers.{big_number-reads_back, length-bytes_high_first}
 use Rattle.site_frame.proofs.HeadLemmas.{same_at, told_on, head_on, head_back, kind_on, kind_back}
 use Rattle.plp_config.specs.declared.moment.Moment.{Moment}
 use Rattle.site_frame.specs.Record.{head_len, head_bytes}
@@ -18,37 +16,10 @@ use Rattle.site_frame.specs.RecordFile.{Announces}
 told_in : (kind : ℕ) (moment : Moment) (len : ℕ) (rest : List ℕ) → len < 256 ^ 4
     → told_len (head_bytes kind moment len ++ rest)
     ≡ len
-told_in kind moment len rest small =
-    let front : List ℕ = big_bytes 8 moment.seconds ++ big_bytes 4 moment.subseconds in
-    let size : length front ≡ 12 =
-    omega (
-      arith,
-      length-append (big_bytes 8 moment.seconds) (big_bytes 4 moment.subseconds),
-      length-bytes_high_first 8 moment.seconds,
-      length-bytes_high_first 4 moment.subseconds,
-    ) in
-    let parts : (big_bytes 8 moment.seconds ++ (big_bytes 4 moment.subseconds ++ big_bytes 4 len)) ++ rest
-    ≡ front ++ (big_bytes 4 len ++ rest) =
-    ap (λ (l : List ℕ). l ++ rest)
-    (sym (append_assoc (big_bytes 8 moment.seconds) (big_bytes 4 moment.subseconds) (big_bytes 4 len)))
-    ∙ append_assoc front (big_bytes 4 len) rest in
-    let behind : drop 12 (front ++ (big_bytes 4 len ++ rest)) ≡ big_bytes 4 len ++ rest =
-    drop_at front (big_bytes 4 len ++ rest) 12 size in
-    ap (λ (l : List ℕ). big_number 4 (drop 12 l)) parts ∙ ap (big_number 4) behind
-    ∙ big_number-reads_back 4 len rest small
+told_in kind moment len rest small = grind (arith, length-append, append_assoc, drop_at)
 
 head_size : (kind : ℕ) (moment : Moment) (len : ℕ) → length (head_bytes kind moment len) ≡ head_len
-head_size kind moment len =
-    let a = length-append (big_bytes 8 moment.seconds) (big_bytes 4 moment.subseconds ++ big_bytes 4 len) in
-    let b = length-append (big_bytes 4 moment.subseconds) (big_bytes 4 len) in
-    omega (
-      arith,
-      a,
-      b,
-      length-bytes_high_first 8 moment.seconds,
-      length-bytes_high_first 4 moment.subseconds,
-      length-bytes_high_first 4 len,
-    )
+head_size kind moment len = grind (arith, length-append)
 
 -- a head tells how many bytes follow
 follow_told : (head : List ℕ) (len : ℕ) → length head ≡ head_len → Follow head len → told_len head ≡ len

@@ -35,10 +35,7 @@ words_split c shape frame (suc n) m address =
 pub words_more : (c : Config) (shape : FrameShape) (frame : ℕ) (n address : ℕ) → words c shape frame address (n + 1)
     ≡ words c shape frame address n
     ++ word_at c shape frame (address + n)
-words_more c shape frame n address = words_split c shape frame n 1 address
-    ∙ ap (λ (l : List ℕ). words c shape frame address n
-    ++ l)
-    (append-nil (word_at c shape frame (address + n)))
+words_more c shape frame n address = grind (arith, words_split, append-nil)
 
 pub length-words : (c : Config) (shape : FrameShape) (frame : ℕ) (n address : ℕ)
     → length (words c shape frame address n) ≡ 4 * n
