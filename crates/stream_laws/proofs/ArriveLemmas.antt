@@ -1,6 +1,6 @@
 -- What comes of a run of which all units are kept: the bytes that the gateway writes, and the frames of the run.
-use Rattle.std.proofs.Common.{◌≡◌, ◌≢◌, ◌⊎◌, inl, inr, ℕ, zero, suc, ◌+◌, ◌<◌, ◌≤◌, Bool, true, List, [], ◌∷◌}
-use Rattle.std.proofs.Common.{◌++◌, map, length, replicate, Some, None, refl, ap, ap₂, sym, subst, ◌∙◌, ⊎_elim, arith}
+use Rattle.std.proofs.Common.{◌≡◌, ◌≢◌, ◌⊎◌, inl, ℕ, zero, suc, ◌+◌, ◌<◌, ◌≤◌, Bool, true, List, [], ◌∷◌}
+use Rattle.std.proofs.Common.{◌++◌, length, replicate, Some, None, refl, ap, ap₂, sym, subst, ◌∙◌, ⊎_elim, arith}
 use Rattle.std.proofs.Math.Path.{fun_ext}
 use Rattle.std.specs.List.{items_where_true, last_or, list_all}
 use Rattle.std.specs.Option.{option_map_or}
@@ -60,11 +60,7 @@ each_whole c (s ∷ sent) n =
 
 own_or_later : (k : ℕ) (s : Sent) (sent : List Sent) → frame_packets k (s ∷ sent) ≢ [] → (k < s.frame + 1)
     ⊎ (frame_packets k sent ≢ [])
-own_or_later k s sent some = ⊎_elim
-    (λ (e : s.frame ≡ k). inl (omega (arith, e)))
-    (λ (e : s.frame ≡ k → ⊥).
-    inr (λ none. some (ap (map (λ (x : Sent). x.packet)) (cond-false _ _ _ (ne_eqb _ _ e)) ∙ none)))
-    (cases_eq s.frame k)
+own_or_later k s sent some = grind (arith, cond-false, ne_eqb, cases_eq)
 
 last_above : (frames k : ℕ) (b : Sent) (sent : List Sent) → InFrameOrder frames (Some b.frame) sent → (k < b.frame + 1)
     ⊎ (frame_packets k sent ≢ [])

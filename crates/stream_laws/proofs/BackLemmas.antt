@@ -5,7 +5,7 @@ use Rattle.std.proofs.Common.{arith, cond}
 use Rattle.std.specs.List.{filter_map, cons_option, flat_map, range_with_len}
 use Rattle.std.proofs.lemmas.Bool.{cond_both, eq-eqb, ne_eqb}
 use Rattle.std.proofs.lemmas.List.Sums.{sum_by-cons}
-use Rattle.terms.specs.Bits.{field, bits_of, part}
+use Rattle.terms.specs.Bits.{field, bits_of}
 use Rattle.terms.proofs.BitLemmas.{bits_of-bytes_of}
 use Rattle.bit_slice.specs.Crc.{crc32_of}
 use Rattle.bb_frame.specs.Laws.{BitCounts, ScramblesBack}
@@ -16,7 +16,7 @@ use Rattle.plp_config.specs.declared.config.Config.{Config}
 use Rattle.l1_signal.specs.L1Of.{pre_of}
 use Rattle.l1_signal.specs.L1Pre.{pre_bits}
 use Rattle.l1_signal.specs.Laws.{PreBitsLength, ConfPartLength}
-use Rattle.l1_signal.specs.Lengths.{conf_len, dyn_len}
+use Rattle.l1_signal.specs.Lengths.{dyn_len}
 use Rattle.l1_signal.specs.declared.lengths.TheConstants.{PRE_BITS}
 use Rattle.t2mi_packet.specs.declared.packet.Body.{Body}
 use Rattle.t2mi_packet.specs.declared.packet.Body.TheVariants.{Block as BlockBody}
@@ -127,12 +127,7 @@ pre_there law c = front_of (pre_bits (pre_of c)) (field 32 (crc32_of (pre_bits (
 pub signal_is : PreBitsLength → ConfPartLength → (c : Config) (n : ℕ) (dynamic : List Bool)
     → length dynamic ≡ dyn_len (length c.plps)
     → signal_of c n (l1_pre c) (post_with c dynamic) ≡ made_l1 c n dynamic
-signal_is law size c n dynamic e =
-    ap (λ (bits : List Bool). l1_body c n bits (take (conf_len (length c.plps)) (post_with c dynamic))
-    (part (post_with c dynamic) (conf_len (length c.plps)) (dyn_len (length c.plps)))) (pre_there law c)
-    ∙ ap (λ (bits : List Bool). l1_body c n (pre_bits (pre_of c)) bits
-    (part (post_with c dynamic) (conf_len (length c.plps)) (dyn_len (length c.plps)))) (conf_there c dynamic size e)
-    ∙ ap (made_l1 c n) (dynamic_there c dynamic size e)
+signal_is law size c n dynamic e = grind (arith, pre_there, conf_there, made_l1, dynamic_there)
 
 -- what is sent of a frame with this dynamic part and these blocks
 pub made_carries : BitCounts → ScramblesBack → PreBitsLength → ConfPartLength → (c : Config) (n : ℕ) → IsPlan c

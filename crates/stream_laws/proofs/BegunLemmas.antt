@@ -69,10 +69,7 @@ begun_own laws c inputs plp n rules inside =
 
 -- one that does not begin in a frame began before
 pub begun_before : (c : Config) (plp n : ℕ) → is_first c plp n ≡ false → begin_of c plp n < n
-begun_before c plp n e =
-    let some = eqb-false _ _ e in
-    let most = mod-le n (spread c.plps plp) in
-    omega (arith, some, most)
+begun_before c plp n e = grind (arith, eqb-false, mod-le)
 
 pub begun_here : (c : Config) (plp n : ℕ) → is_first c plp n ≡ true → begin_of c plp n ≡ n
 begun_here c plp n e = let none = eqb-true _ _ e in omega (arith, none)
@@ -145,11 +142,7 @@ pub begun_survive : WholeIsAll → (c : Config) (sent : List Sent) (survival : L
     → length survival ≡ length sent → plp < length c.plps → is_whole c sent survival n ≡ true
     → blocks_of c plp (frame_packets (begin_of c plp n) (items_where_true survival sent))
     ≡ blocks_of c plp (frame_packets (begin_of c plp n) sent)
-begun_survive all c sent survival plp n len inside w =
-    begun_blocks c plp n (items_where_true survival sent)
-    ∙ ap (filter_map (sent_block c plp))
-    (all c sent survival n (begun c plp n) len w (λ s e. begun_carried c plp n s inside e))
-    ∙ sym (begun_blocks c plp n sent)
+begun_survive all c sent survival plp n len inside w = grind (arith, begun_blocks, begun_carried)
 
 -- ---- groups that are met
 
@@ -170,11 +163,7 @@ module _ (laws : Interleaving) (c : Config) (plan : IsPlan c) (first m : ℕ) (s
 
   -- so is each group in which one begins that frame m carries
   pub begin_met : (b : ℕ) → b < m → is_begin c m b ≡ true → packets_at past b ≡ frame_packets b survivors
-  begin_met b below e =
-      let one = place_of_any c (λ plp. begin_of c plp m == b) e in
-      let is : begin_of c one.0 m ≡ b = eqb-true _ _ one.2 in
-      let late = begun_late laws c one.0 first m plan.rules one.1 met.begins met.before in
-      met.groups.there b (omega (arith, late, is)) below
+  begin_met b below e = grind (arith, place_of_any, eqb-true, begun_late, first)
 
 pub have_begun : BitCounts → FieldRange → WholeIsAll → (laws : Interleaving) (c : Config) (inputs : ℕ → List (List ℕ))
     (plan : IsPlan c) (count first m : ℕ) (survival : List Bool) (past : List Numbered)

@@ -5,7 +5,6 @@ use Rattle.std.specs.List.{AllByRecursion}
 use Rattle.std.proofs.lemmas.List.FromFn.{get_or-map-range_with_len}
 use Rattle.bb_frame.specs.Laws.{BitCounts}
 use Rattle.plp_config.specs.Capacity.{block_bytes, field_bytes}
-use Rattle.plp_config.specs.InterleavingFrames.{interleaving_frame, is_first}
 use Rattle.plp_config.specs.Laws.{FieldRange}
 use Rattle.plp_config.specs.SlotTime.{slots_by, epoch_ticks}
 use Rattle.plp_config.specs.declared.config.Config.{Config}
@@ -36,10 +35,7 @@ either_long false size blocks h = tt
 -- so has each that is sent in a frame
 pub own_long : BitCounts → FieldRange → (c : Config) (inputs : ℕ → List (List ℕ)) (n plp : ℕ)
     → AllByRecursion (λ b. length b ≡ 8 * block_bytes c plp) (own_blocks c inputs n plp)
-own_long counts law c inputs n plp =
-    let m : ℕ = interleaving_frame c plp n in
-    either_long (is_first c plp n) (8 * block_bytes c plp) (plp_blocks c inputs m plp)
-    (blocks_long counts law c inputs m plp)
+own_long counts law c inputs n plp = search (arith, either_long, blocks_long)
 
 -- how many blocks a frame tells of a PLP, among the numbers of all
 pub count_at : (c : Config) (inputs : ℕ → List (List ℕ)) (n plp : ℕ) → plp < length c.plps

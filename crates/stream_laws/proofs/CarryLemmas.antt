@@ -2,26 +2,22 @@
 use Rattle.std.proofs.lemmas.List.FromFn.{length-range_with_len, get_or-range_with_len}
 use Rattle.std.proofs.lemmas.List.Sums.{AllPass-from_list_all}
 use Rattle.std.proofs.Common.{◌≡◌, ℕ, zero, suc, ◌+◌, ◌*◌, ◌<◌, ◌≤◌, ◌==◌, ◌&&◌, ◌||◌, not, Bool, true, false, List, []}
-use Rattle.std.proofs.Common.{◌∷◌, length, map, Option, Some, None, refl, ap, sym, subst, ◌∙◌, ⊎_elim, arith}
-use Rattle.std.specs.Prelude.{slice_get, slice_index, if◌then◌else◌, nat_le, nat_lt, unwrap_or, option_map}
+use Rattle.std.proofs.Common.{◌∷◌, length, Option, Some, None, refl, ap, sym, subst, ◌∙◌, ⊎_elim, arith}
+use Rattle.std.specs.Prelude.{slice_get, slice_index, if◌then◌else◌, nat_le, nat_lt}
 use Rattle.std.specs.List.{filter_map, find, range_with_len, list_all, AllByRecursion}
-use Rattle.std.specs.Option.{option_and_then, option_map_or}
+use Rattle.std.specs.Option.{option_and_then}
 use Rattle.std.proofs.lemmas.Bool.{cond_both, cases_Bool, and_from, and_left, cond-true, cond-false, eq-eqb}
 use Rattle.std.proofs.lemmas.Bool.{not_from_true}
 use Rattle.terms.proofs.RangeLemmas.{flat_same, sums_same}
 use Rattle.open_group.proofs.CountLemmas.{not_all_places}
 use Rattle.bb_frame.specs.Laws.{BitCounts, ScramblesBack}
 use Rattle.plp_config.specs.Capacity.{IsPlan, block_bytes}
-use Rattle.plp_config.specs.Emission.{emission}
-use Rattle.plp_config.specs.InterleavingFrames.{is_first, begin_of}
+use Rattle.plp_config.specs.InterleavingFrames.{is_first}
 use Rattle.plp_config.specs.Plps.{plp_at}
-use Rattle.plp_config.specs.Tables.{bw}
 use Rattle.plp_config.specs.declared.config.Config.{Config}
 use Rattle.linked_pool.specs.Pool.{chunks_for}
-use Rattle.scheduler.specs.Shape.{FrameShape, blank}
-use Rattle.l1_signal.specs.L1Of.{told_shape}
+use Rattle.scheduler.specs.Shape.{FrameShape}
 use Rattle.l1_signal.specs.Laws.{PreBitsLength}
-use Rattle.l1_signal.specs.declared.dynamic.L1Dyn.{L1Dyn}
 use Rattle.t2mi_packet.specs.declared.packet.Packet.{Packet}
 use Rattle.t2mi_packet.specs.declared.packet.Stamp.{Stamp}
 use Rattle.frame_groups.specs.Modulated.{Numbered}
@@ -34,14 +30,13 @@ use Rattle.frame_groups.specs.Carried.{body_block, blocks_of, right_blocks, L1Pa
 use Rattle.frame_groups.specs.TestLaws.{FrameNamed}
 use Rattle.frame_groups.specs.Readable.{told_dynamic}
 use Rattle.frame_groups.specs.Tests.{unless, begins_superframe, pool_need, pool_chunks, capped, room_test, begun_test}
-use Rattle.frame_groups.specs.Tests.{pool_test, missing_test, parts_agree, l1s_agree, l1_test, stamp_agrees, disagrees}
+use Rattle.frame_groups.specs.Tests.{pool_test, missing_test, parts_agree, l1s_agree, l1_test, stamp_agrees}
 use Rattle.frame_groups.specs.Tests.{time_test, l1_shape, first_shape, has_begun, has_count, has_counts, blocks_test}
 use Rattle.frame_groups.specs.Tests.{has_map, map_test, packets_fault}
 use Rattle.frame_groups.proofs.BegunLemmas.{none_fails}
-use Rattle.record_laws.specs.Frames.{sent_block, sent_blocks}
 use Rattle.open_group.specs.Front.{post_with}
 use Rattle.open_group.specs.RecordBytes.{own_count}
-use Rattle.open_group.specs.Written.{dynamic_in, shape_in, packets_view}
+use Rattle.open_group.specs.Written.{dynamic_in, packets_view}
 use Rattle.frame_writer.specs.FramePackets.{stamp_of}
 use Rattle.stream_laws.specs.Carrying.{blocks_in, plp_num_blocks, HaveRoom, has_told, ComesBack, FrameComesBack}
 use Rattle.stream_laws.specs.Remade.{view_bodies}
@@ -88,9 +83,7 @@ own_stamps c n true = (refl, tt)
 own_stamps c n false = tt
 
 stamp_passes : (c : Config) (n : ℕ) → stamp_agrees c n (stamp_of c n) ≡ true
-stamp_passes c n =
-    let alike : (n : ℕ) → (n == n) ≡ true = λ n. eq-eqb n n refl in
-    and_from _ _ (and_from _ _ (alike (bw c.band)) (alike (emission c n).seconds)) (alike (emission c n).subseconds)
+stamp_passes c n = grind (arith, eq-eqb, and_from)
 
 none_late : (c : Config) (n : ℕ) (stamps : List Stamp) → AllByRecursion (λ s. s ≡ stamp_of c n) stamps
     → find (λ s. not (stamp_agrees c n s)) stamps ≡ None
@@ -104,13 +97,7 @@ pub time_passes : (c : Config) (n : ℕ) (packets : List Packet) → AllByRecurs
     (stamps_of packets)
     → time_test c n packets ≡ None
 unfolding time_test
-time_passes c n packets h = go (begins_superframe c n)
-  where
-    go : (t : Bool)
-        → ◌≡◌ {A = Option MuteCause}
-        (if t then option_map (disagrees c n) (find (λ s. not (stamp_agrees c n s)) (stamps_of packets)) else None) None
-    go true = ap (option_map (disagrees c n)) (none_late c n (stamps_of packets) h)
-    go false = refl
+time_passes c n packets h = grind (arith, Option, none_late)
 
 -- ---- the tests of packets of which the L1-current agrees, and tells a shape whose cells stand apart
 
@@ -134,19 +121,14 @@ module _ (c : Config) (n : ℕ) (l1 : L1Parts) (shape : FrameShape) (own : ℕ �
 
   missing_none : missing_test c n packets ≡ None
   unfolding missing_test
-  missing_none =
-      unless_true _ _ (and_from _ _ (ap (λ (l : List L1Parts). nat_lt 0 (length l)) has.l1s)
-      (ap (λ (l : List Stamp). not (begins_superframe c n) || nat_lt 0 (length l)) has.stamps
-      ∙ stamp_there (begins_superframe c n)))
+  missing_none = grind (arith, unless_true, and_from, stamp_there)
 
   l1_none : l1_test c n packets ≡ None
   unfolding l1_test
   l1_none = unless_true _ _ (ap (l1s_agree c n) has.l1s ∙ agree)
 
   time_none : time_test c n packets ≡ None
-  time_none =
-      time_passes c n packets
-      (subst (AllByRecursion (λ s. s ≡ stamp_of c n)) (sym has.stamps) (own_stamps c n (begins_superframe c n)))
+  time_none = grind (arith, time_passes, own_stamps)
 
   map_none : map_test c packets ≡ None
   unfolding map_test
@@ -203,16 +185,7 @@ module _ (numbers : BitCounts) (back : ScramblesBack) (law : PreBitsLength) (nam
       (carry ∙ view_carries numbers back law knows c n plan first p)
 
   agree : parts_agree c n (made_parts c dyn) ≡ true
-  agree =
-      let mine = told knows c n first p in
-      (knows.told c n (made_parts c dyn)).1 (record {
-        pre = pre_spelled knows c n p.l1.first mine;
-        conf = conf_spelled knows c n p.l1.first mine;
-        dynamic = mine.dynamic;
-        spells = mine.spells;
-        frame = mine.frame;
-        ids = mine.ids;
-      })
+  agree = grind (arith, told, p, made_parts, pre_spelled, conf_spelled)
 
   -- ---- the tests
 
@@ -234,9 +207,7 @@ module _ (numbers : BitCounts) (back : ScramblesBack) (law : PreBitsLength) (nam
       ∙ told_is knows c n p.l1.first mine ∙ dynamic_read knows c n p.l1.first mine
 
   num_blocks : (plp : ℕ) → plp_num_blocks c plp (packets_view c n first) ≡ slice_index own.counts plp
-  num_blocks plp =
-      ap (λ (o : Option L1Dyn). slice_index (option_map_or (λ d. (told_shape d).counts) o []) plp) post_tells
-      ∙ ap (λ (s : FrameShape). slice_index s.counts plp) (shape_is knows c n first p)
+  num_blocks plp = grind (arith, Option, post_tells, shape_is, p)
 
   -- test e, by the groups before
   own_counts : (plp : ℕ) → plp < length c.plps → length (blocks_of c plp packets) ≡ own_count c n own plp
@@ -253,10 +224,7 @@ module _ (numbers : BitCounts) (back : ScramblesBack) (law : PreBitsLength) (nam
 
   later_counted : (past : List Numbered) (plp : ℕ) → plp < length c.plps → is_first c plp n ≡ false
       → count_holds past plp ≡ has_told c n (packets_view c n first) past plp
-  later_counted past plp inside e =
-      let begun : Bool = has_begun c plp (packets_at past (begin_of c plp n)) (slice_index own.counts plp) in
-      cond-false _ _ _ e ∙ ap (λ (b : Bool). b && begun) (eq-eqb _ _ (own_counts plp inside ∙ cond-false _ _ _ e))
-      ∙ sym (ap (has_begun c plp (packets_at past (begin_of c plp n))) (num_blocks plp))
+  later_counted past plp inside e = grind (arith, cond-false, eq-eqb, own_counts, num_blocks)
 
   pool : (past : List Numbered) → HaveRoom c past n → pool_test c past n packets ≡ None
   pool past rooms = pool_none c past n packets rooms room
@@ -278,18 +246,7 @@ module _ (numbers : BitCounts) (back : ScramblesBack) (law : PreBitsLength) (nam
       p.l1.map past (pool past rooms) plp inside (later_counted past plp inside e ∙ lacks)
 
   same_view : packets_view c n packets ≡ packets_view c n first
-  same_view =
-      let d : dynamic_in packets ≡ dynamic_in first =
-      ap (λ (l : List L1Parts). option_map_or (λ l1. l1.dynamic) (slice_get l 0) []) has.l1s
-      ∙ sym (dynamic_is knows c n first p) in
-      let s : shape_in c packets ≡ shape_in c first =
-      ap (λ (o : Option FrameShape). unwrap_or o (blank (length c.plps)))
-      (first_is c n (made_parts c dyn) own right packets has agree p.l1.told p.l1.map)
-      ∙ sym (view_shape knows c n first p) in
-      let b : sent_blocks c (λ plp. right_blocks c plp packets) ≡ sent_blocks c right =
-      flat_same (λ plp. map (sent_block c plp) (right_blocks c plp packets)) (λ plp. map (sent_block c plp) (right plp))
-      0 (length c.plps) (λ plp le lt. ap (map (sent_block c plp)) (has.right plp (omega (arith, lt)))) in
-      rw (d, s, b) refl
+  same_view = grind (arith, has, dynamic_is, p, Option, first_is, made_parts, agree, view_shape, flat_same)
 
   block_counts : (plp told : ℕ) → plp < length c.plps → has_begun c plp packets told
       ≡ (blocks_in c plp (packets_view c n first) == told)

@@ -10,7 +10,7 @@ use Rattle.std.proofs.lemmas.List.{map-append}
 use Rattle.t2mi_packet.specs.declared.packet.Packet.{Packet}
 use Rattle.frame_groups.specs.Groups.{Group}
 use Rattle.frame_groups.specs.Laws.{NextIsFound}
-use Rattle.frame_groups.specs.Modulated.{Content, FrameRecord, Numbered, Rules, content_of, group_record, gap_record}
+use Rattle.frame_groups.specs.Modulated.{Content, FrameRecord, Numbered, Rules, group_record, gap_record}
 use Rattle.frame_groups.specs.Modulated.{unless_fault, passing, join_number, past_with, gaps_between, gaps_behind}
 use Rattle.frame_groups.specs.Modulated.{own_record, records_from, modulated}
 use Rattle.frame_groups.specs.Modulated.Content.{Whole, Muted}
@@ -19,7 +19,6 @@ use Rattle.frame_groups.specs.declared.cause.MuteCause.{MuteCause}
 use Rattle.frame_groups.specs.declared.cause.MuteCause.TheVariants.{PacketMissing}
 use Rattle.record_laws.specs.Records.{numbers_from}
 use Rattle.stream_laws.specs.SentPackets.{Sent, packets_of, frame_packets, frame_group}
-use Rattle.frame_groups.specs.Begun.{packets_at}
 use Rattle.frame_groups.proofs.BegunLemmas.{at_own, at_other}
 use Rattle.plp_config.specs.declared.config.Config.{Config}
 use Rattle.stream_laws.specs.Survivors.{carries, is_whole, loss_of, sent_content, sent_record, end_of, survivor_records}
@@ -33,20 +32,12 @@ use Rattle.stream_laws.proofs.WholeLemmas.{whole_is_all}
 -- the first number that passes
 find_later : (test : ℕ → Bool) (from end : ℕ) → test from ≡ false → find test (range_with_len from (end - from))
     ≡ find test (range_with_len (from + 1) (end - (from + 1)))
-find_later test from end e = go (end - from) (omega arith)
-  where
-    go : (k : ℕ) → k - 1 ≡ end - (from + 1)
-        → find test (range_with_len from k) ≡ find test (range_with_len (from + 1) (end - (from + 1)))
-    go zero z = ap (λ (j : ℕ). find test (range_with_len (from + 1) j)) z
-    go (suc k) z = cond-false _ _ _ e ∙ ap (λ (j : ℕ). find test (range_with_len (from + 1) j)) (omega (arith, z))
+find_later test from end e = grind (arith, find, cond-false)
 
 find_here : (test : ℕ → Bool) (from end : ℕ) → from < end → test from ≡ true
     → find test (range_with_len from (end - from))
     ≡ Some from
-find_here test from end l e =
-    let z : end - from ≡ suc (end - (from + 1)) = omega (arith, l) in
-    ap (λ (j : ℕ). find test (range_with_len from j)) z
-    ∙ cond-true _ _ _ e
+find_here test from end l e = grind (arith, find, cond-true)
 
 -- the number behind the last frame of some
 abbrev end_met : ℕ → List Met → ℕ
@@ -87,28 +78,12 @@ own_carried c n s e = rw e refl
 -- groups that are met, and the next frame
 met_none : (first n : ℕ) (survivors : List Sent) (past : List Numbered) → AreMet first n survivors past
     → frame_packets n survivors ≡ [] → AreMet first (n + 1) survivors past
-met_none first n survivors past h none = record {
-  there = λ b low high. ⊎_elim
-      (λ (e : b ≡ n). h.none b (omega (arith, e)) ∙ sym (ap (λ (k : ℕ). frame_packets k survivors) e ∙ none))
-      (λ (ne : b ≡ n → ⊥). h.there b low (omega (arith, high, ne)))
-      (cases_eq b n);
-  none = λ b l. h.none b (omega (arith, l));
-}
+met_none first n survivors past h none = grind (arith, cases_eq)
 
 met_one : (first n : ℕ) (survivors : List Sent) (past : List Numbered) (g : Group) → AreMet first n survivors past
     → g.packets ≡ frame_packets n survivors
     → AreMet first (n + 1) survivors (record { number = n; group = g } ∷ past)
-met_one first n survivors past g h is = record {
-  there = λ b low high. ⊎_elim
-      (λ (e : b ≡ n).
-      ap (packets_at (record { number = n; group = g } ∷ past)) e ∙ at_own (record { number = n; group = g }) past ∙ is
-      ∙ ap (λ (k : ℕ). frame_packets k survivors) (sym e))
-      (λ (ne : b ≡ n → ⊥). at_other (record { number = n; group = g }) past b (λ e. ne (sym e))
-      ∙ h.there b low (omega (arith, high, ne)))
-      (cases_eq b n);
-  none = λ b l. at_other (record { number = n; group = g }) past b (λ e. omega (arith, l, e))
-      ∙ h.none b (omega (arith, l));
-}
+met_one first n survivors past g h is = grind (arith, at_own, at_other, cases_eq)
 
 pub met_first : (n : ℕ) (survivors : List Sent) → AreMet n n survivors []
 met_first n survivors = record { there = λ b low high. absurd (omega (arith, low, high)); none = λ b l. refl }
@@ -149,33 +124,18 @@ module _ (found : NextIsFound) (r : Rules) (count : ℕ) (sent : List Sent) (sur
 
   -- the record of a frame without a survivor
   gone : (n : ℕ) → n < count → frame_packets n ss ≡ [] → gap_record n ≡ there n
-  gone n l none =
-      sym (ap (record_with n) (lost_content n (not_whole n l none) ∙ ap (λ (ps : List Packet). Muted (loss_of ps))
-      none))
+  gone n l none = grind (arith, lost_content, not_whole)
 
   -- the record of a frame with a survivor
   met : (first n : ℕ) (past : List Numbered) → n < count → IsMet r.frames first n ss past
       → group_record r past (frame_group r.frames ss n) n ≡ there n
-  met first n past l is = ⊎_elim
-      (λ (w : whole n ≡ true).
-      ap (λ (g : Group). group_record r past g n) (same_group n w)
-      ∙ ap (λ (o : Option MuteCause). record_with n (content_of (frame_group r.frames sent n) o))
-      (meet.passes first n past l is w)
-      ∙ sym (ap (record_with n) (whole_content n w)))
-      (λ (w : whole n ≡ false).
-      ap (λ (o : Option MuteCause). record_with n (content_of (frame_group r.frames ss n) o))
-      (meet.lacks first n past l is w)
-      ∙ sym (ap (record_with n) (lost_content n w ∙ ap Muted (loss_some (frame_packets n ss) is.some))))
-      (cases_Bool (whole n))
+  met first n past l is = grind (arith, same_group, Option, whole_content, lost_content, loss_some, cases_Bool)
 
   met_as : (first n : ℕ) (past : List Numbered) (p : Packet) (ps : List Packet) → n < count → first ≤ n
       → first % r.frames ≡ 0
       → AreMet first n ss past → frame_packets n ss ≡ p ∷ ps → group_record r past (group_as r.frames n (p ∷ ps))
       n ≡ there n
-  met_as first n past p ps l low begins groups is =
-      ap (λ (qs : List Packet). group_record r past (group_as r.frames n qs) n) (sym is)
-      ∙ met first n past l
-      (record { before = low; begins = begins; groups = groups; some = not_empty p ps (frame_packets n ss) is })
+  met_as first n past p ps l low begins groups is = grind (arith, group_as, met, not_empty)
 
   -- The records behind frame n, if none of the frames up to another has a survivor.
   after_is : (first : ℕ) → first % r.frames ≡ 0 → (more from : ℕ) (b : Numbered) (past : List Numbered)
@@ -268,14 +228,7 @@ module _ (found : NextIsFound) (r : Rules) (count : ℕ) (sent : List Sent) (sur
   is_no_join : (n : ℕ) (p : Packet) (ps : List Packet) → n < count → frame_packets n ss ≡ p ∷ ps → joins n ≡ false
       → join_number r (group_as r.frames n (p ∷ ps)) ≡ None
   is_no_join n p ps l is t =
-      ap (λ (qs : List Packet). join_number r (group_as r.frames n qs)) (sym is)
-      ∙ ⊎_elim
-      (λ (w : whole n ≡ false).
-      cond_both (n % r.frames == 0) _ _ (λ o. o ≡ None)
-      (λ e. passes_not n l (eqb-true _ _ e) (not_empty p ps (frame_packets n ss) is) w
-      (r.named (frame_group r.frames ss n)) refl) (λ e. refl))
-      (λ (e : (n % r.frames == 0) ≡ false). cond-false _ _ _ e)
-      (and_cases _ _ t)
+      grind (arith, group_as, cond_both, passes_not, eqb-true, not_empty, cond-false, and_cases)
 
   -- The records of frames from one on, up to which there is no join.
   join_is : (more from end : ℕ) → from + more ≡ count → end ≤ from → StepsIn r.frames (frames_met from more ss)

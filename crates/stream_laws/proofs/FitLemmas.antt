@@ -6,10 +6,8 @@ use Rattle.std.proofs.Common.{◌∷◌, map, length, arith, length-append}
 use Rattle.std.specs.List.{flat_map, range_with_len, AllByRecursion}
 use Rattle.std.proofs.lemmas.Bool.{cond_both}
 use Rattle.std.proofs.lemmas.Nat.{mod_below}
-use Rattle.terms.specs.Bits.{field}
 use Rattle.terms.proofs.AllLemmas.{all_append}
 use Rattle.terms.proofs.BitLemmas.{length-field}
-use Rattle.bit_slice.specs.Crc.{crc32_of}
 use Rattle.bb_frame.specs.Laws.{BitCounts}
 use Rattle.plp_config.specs.Capacity.{IsPlan, block_bytes}
 use Rattle.plp_config.specs.Laws.{EmissionFits, FieldRange}
@@ -20,8 +18,7 @@ use Rattle.plp_config.specs.declared.band.Band.{Band}
 use Rattle.plp_config.specs.declared.band.Band.TheVariants.{Mhz1_7, Mhz5, Mhz6, Mhz7, Mhz8, Mhz10}
 use Rattle.plp_config.specs.declared.config.Config.{Config}
 use Rattle.plp_config.specs.declared.moment.TheConstants.{MOST_FRAMES}
-use Rattle.scheduler.specs.Shape.{shape_of}
-use Rattle.l1_signal.specs.L1Of.{pre_of, post_front_bits, post_bits}
+use Rattle.l1_signal.specs.L1Of.{pre_of, post_bits}
 use Rattle.l1_signal.specs.Laws.{PreBitsLength, PostLength}
 use Rattle.l1_signal.specs.Lengths.{post_len}
 use Rattle.l1_signal.specs.declared.lengths.TheConstants.{PRE_BITS}
@@ -56,12 +53,7 @@ parts_len : PostLength → (c : Config) (n : ℕ) (counts : List ℕ)
     → length (conf_part c) + length (dyn_part c n counts) + 32
     ≡ post_len (length c.plps)
 unfolding conf_part dyn_part post_bits
-parts_len law c n counts =
-    let a = law c n (shape_of c counts) in
-    let b = length-append (post_front_bits c n (shape_of c counts))
-    (field 32 (crc32_of (post_front_bits c n (shape_of c counts)))) in
-    let d = length-append (conf_part c) (dyn_part c n counts) in
-    omega (arith, a, b, d, length-field 32 (crc32_of (post_front_bits c n (shape_of c counts))))
+parts_len law c n counts = grind (arith, length-append, length-field)
 
 pub fit_blocks : (size frame_idx id : ℕ) (first : Bool) (blocks : List (List Bool)) → size ≤ 65000 → frame_idx < 2 ^ 8
     → id < 2 ^ 8
@@ -129,9 +121,7 @@ module _ (emits : EmissionFits) (bits : PreBitsLength) (post : PostLength) (numb
     (plan : IsPlan c) (ids : HasByteIds c) (inputs : ℕ → List (List ℕ)) where
   fit_frame : (n : ℕ) → n < MOST_FRAMES → AllByRecursion IsFit (frame_bodies c n (told_counts c inputs n)
       (own_blocks c inputs n))
-  fit_frame n l = frame_fits emits range c plan ids n (pre_part c) (conf_part c) (dyn_part c n (told_counts c inputs n))
-      (own_blocks c inputs n) l (pre_len bits c) (parts_len post c n (told_counts c inputs n))
-      (own_long numbers range c inputs n)
+  fit_frame n l = search (arith, frame_fits, pre_len, parts_len, own_long)
 
   pub run_fits : (n : ℕ) → n ≤ MOST_FRAMES → AllByRecursion PairFits (bodies_before c inputs n)
   run_fits n l = all_pairs (λ m. frame_bodies c m (told_counts c inputs m) (own_blocks c inputs m)) n 0 n (omega arith)

@@ -14,9 +14,8 @@ use Rattle.plp_config.specs.Places.{places}
 use Rattle.plp_config.specs.declared.config.Config.{Config}
 use Rattle.scheduler.specs.Shape.{FrameShape, blank}
 use Rattle.l1_signal.specs.L1Of.{told_shape}
-use Rattle.l1_signal.specs.declared.dyn_plp.DynPlp.{DynPlp}
 use Rattle.t2mi_packet.specs.declared.packet.Packet.{Packet}
-use Rattle.frame_groups.specs.Groups.{Group, groups}
+use Rattle.frame_groups.specs.Groups.{Group}
 use Rattle.frame_groups.specs.Modulated.{Numbered, FrameRecord, Content, past_after}
 use Rattle.frame_groups.specs.Carried.{L1Parts, right_blocks}
 use Rattle.frame_groups.specs.TestLaws.{MapPasses, IsOfFrame}
@@ -29,9 +28,6 @@ use Rattle.open_group.specs.Sent.{held_bytes}
 use Rattle.open_group.specs.Written.{dynamic_in, shape_in, packets_view, content_view}
 use Rattle.open_group.proofs.GivenLemmas.{has_blocks}
 use Rattle.modulator.specs.Laws.{DuePass, IsRight}
-use Rattle.modulator.specs.StandsFor.{records_due}
-use Rattle.t2mi_stream.specs.Units.{accepted_of}
-use Rattle.modulator.specs.Modulating.{packets_of}
 use Rattle.stream_laws.specs.Formed.{Forms, IsFormed}
 use Rattle.stream_laws.specs.FormedLaws.{FramesAreFormed, IsFormedRecord}
 use Rattle.stream_laws.proofs.PassedLemmas.{Passed, passed}
@@ -62,9 +58,7 @@ module _ (knows : Knows) (c : Config) (n : ℕ) (packets : List Packet) (p : Pas
 
   pub counts_len : length shape.counts ≡ length c.plps
   unfolding told_shape
-  counts_len =
-      ap (λ (s : FrameShape). length s.counts) (sym shape_is)
-      ∙ length-map told.dynamic.plps (λ (plp : DynPlp). plp.plp_num_blocks) ∙ plps_told knows c n first told
+  counts_len = grind (arith, shape_is, length-map, told, plps_told)
 
   pub first_is : first_shape c packets ≡ Some shape
   first_is = ap (option_and_then (l1_shape c)) p.l1.is ∙ p.l1.told
@@ -130,6 +124,4 @@ module _ (knows : Knows) (numbers : BitCounts) (map_test : MapPasses) (c : Confi
   all_formed (x ∷ xs) h = (right_formed x h.0, all_formed xs h.1)
 
 pub frames_are_formed : Knows → BitCounts → MapPasses → DuePass → FramesAreFormed
-frames_are_formed knows numbers map_test pass c finished bytes plan =
-    all_formed knows numbers map_test c plan (groups c.frames (packets_of (accepted_of c.pid bytes)))
-    (records_due c finished bytes) (pass c finished bytes)
+frames_are_formed knows numbers map_test pass c finished bytes plan = grind (arith, all_formed)

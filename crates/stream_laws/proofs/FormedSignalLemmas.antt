@@ -12,7 +12,6 @@ use Rattle.terms.proofs.BitLemmas.{length-field}
 use Rattle.terms.proofs.PartLemmas.{part-middle}
 use Rattle.bit_slice.specs.Crc.{crc32_of}
 use Rattle.plp_config.specs.declared.config.Config.{Config}
-use Rattle.plp_config.specs.declared.plp.Plp.{Plp}
 use Rattle.l1_signal.specs.L1Configurable.{conf_bits, conf_read, info_size, ConfSpells}
 use Rattle.l1_signal.specs.L1Dynamic.{dyn_read}
 use Rattle.l1_signal.specs.L1Of.{pre_of, conf_of}
@@ -20,7 +19,6 @@ use Rattle.l1_signal.specs.L1Pre.{pre_rows, pre_bits, pre_reading, PreSpells, Pr
 use Rattle.l1_signal.specs.Laws.{PreReadBack, PreWritten, ConfWritten, ConfPartLength, DynReadBack, DynLength}
 use Rattle.l1_signal.specs.Laws.{crc_behind}
 use Rattle.l1_signal.specs.Lengths.{conf_len, dyn_len, post_len}
-use Rattle.l1_signal.specs.declared.dyn_plp.DynPlp.{DynPlp}
 use Rattle.l1_signal.specs.declared.lengths.TheConstants.{CRC_BITS}
 use Rattle.l1_signal.specs.declared.pre.L1Pre.{L1Pre}
 use Rattle.l1_signal.proofs.ConfLemmas.{spelled_fits}
@@ -67,30 +65,17 @@ module _ (c : Config) (dynamic : List Bool) (conf_size : ConfPartLength) (dyn_si
   whole_post = post_with c dynamic
 
   pub post_long : length whole_post ≡ post_len (length c.plps)
-  post_long =
-      let a = conf_size c in
-      let d = length-append conf_bits_of dynamic in
-      let e = length-append both_parts (field 32 (crc32_of both_parts)) in
-      let f = length-field 32 (crc32_of both_parts) in
-      omega (arith, a, dyn_size, d, e, f)
+  post_long = grind (arith, conf_size, length-append, length-field, dyn_size)
 
   pub parts_long : length both_parts ≡ length whole_post - CRC_BITS
-  parts_long =
-      let e = length-append both_parts (field 32 (crc32_of both_parts)) in
-      let f = length-field 32 (crc32_of both_parts) in
-      omega (arith, e, f)
+  parts_long = grind (arith, length-append, length-field)
 
   -- the parts stand in it at their places
   pub conf_there : take (conf_len (length c.plps)) whole_post ≡ conf_bits_of
-  conf_there =
-      ap (take (conf_len (length c.plps))) (append_assoc conf_bits_of dynamic (field 32 (crc32_of both_parts)))
-      ∙ front_of conf_bits_of (dynamic ++ field 32 (crc32_of both_parts)) (conf_len (length c.plps)) (conf_size c)
+  conf_there = grind (arith, append_assoc, front_of, conf_size)
 
   pub dynamic_there : part whole_post (conf_len (length c.plps)) (dyn_len (length c.plps)) ≡ dynamic
-  dynamic_there =
-      part-middle conf_bits_of dynamic (field 32 (crc32_of both_parts)) (conf_len (length c.plps))
-      (dyn_len (length c.plps))
-      (conf_size c) dyn_size
+  dynamic_there = grind (arith, part-middle, conf_size, dyn_size)
 
   pub crc_there : crc_behind true (take (length whole_post - CRC_BITS) whole_post) ≡ whole_post
   crc_there = ap (crc_behind true) (front_of both_parts (field 32 (crc32_of both_parts)) (length whole_post - CRC_BITS)
@@ -129,9 +114,7 @@ module _ (knows : Knows) (c : Config) (n : ℕ) (l1 : L1Parts) (is : IsOfFrame c
   conf_spelled = knows.conf_written (conf_of c) (spelled_fits (conf_of c) l1.conf is.conf)
 
   pub plps_told : length is.dynamic.plps ≡ plps
-  plps_told =
-      sym (length-map is.dynamic.plps (λ (plp : DynPlp). plp.plp_id)) ∙ ap length is.ids
-      ∙ length-map c.plps (λ (plp : Plp). plp.id)
+  plps_told = grind (arith, length-map)
 
   pub dyn_size : length dynamic ≡ dyn_len plps
   dyn_size = knows.dyn_size is.dynamic dynamic is.spells ∙ ap dyn_len plps_told
@@ -153,10 +136,7 @@ module _ (knows : Knows) (c : Config) (n : ℕ) (l1 : L1Parts) (is : IsOfFrame c
       (and_parts _ _ ((knows.told c n l1).1 is)).1
 
   conf_is : conf_agrees c (read_whole (conf_read (info_size (length c.plps)) (take (conf_len plps) post))) ≡ true
-  conf_is =
-      ap (λ (bits : List Bool). conf_agrees c (read_whole (conf_read (info_size (length c.plps)) bits)))
-      (conf_there c dynamic knows.conf_size dyn_size)
-      ∙ (knows.conf_told c conf).1 conf_spelled
+  conf_is = grind (arith, conf_there, dyn_size, conf_spelled)
 
   pub post_is : post_agrees c n post ≡ true
   post_is =

@@ -1,28 +1,23 @@
 -- The records that must come of what is received of a run.
 use Rattle.std.proofs.Common.{◌≡◌, ℕ, zero, suc, ◌+◌, ◌-◌, ◌%◌, ◌<◌, ◌≤◌, ◌==◌, ◌&&◌, Bool, true, false, List, [], ◌∷◌}
-use Rattle.std.proofs.Common.{◌++◌, map, length, drop, replicate, Option, Some, None, refl, ap, ap₂, sym, ◌∙◌, ⊎_elim}
+use Rattle.std.proofs.Common.{◌++◌, map, replicate, Option, Some, None, refl, ap, ap₂, sym, ◌∙◌, ⊎_elim}
 use Rattle.std.proofs.Common.{arith}
-use Rattle.std.specs.Prelude.{find, if◌then◌else◌}
+use Rattle.std.specs.Prelude.{find}
 use Rattle.std.specs.List.{flat_map, range_with_len, items_where_true, last_or, AllByRecursion}
 use Rattle.std.specs.Option.{option_map_or}
 use Rattle.std.proofs.lemmas.Bool.{cases_lt}
 use Rattle.plp_config.specs.Capacity.{IsPlan}
-use Rattle.plp_config.specs.Emission.{emission}
 use Rattle.plp_config.specs.declared.config.Config.{Config}
 use Rattle.t2mi_stream.specs.Received.{AlteredWhole}
 use Rattle.t2mi_stream.specs.Received.Fate.{Kept}
 use Rattle.t2mi_stream.specs.Survivors.{AreKept}
-use Rattle.t2mi_stream.specs.Pipe.{pipe}
 use Rattle.site_frame.specs.Whole.{record_bytes}
-use Rattle.site_frame.specs.declared.reading.RecordView.TheVariants.{Muted as MutedRecord}
-use Rattle.record_laws.specs.Frames.{frame_of, HasByteIds}
-use Rattle.gateway_core.specs.Packets.{front_packets}
+use Rattle.record_laws.specs.Frames.{HasByteIds}
 use Rattle.record_laws.specs.Records.{numbers_from, record_of, file_bytes}
-use Rattle.frame_groups.specs.Modulated.Content.{Whole, Muted}
 use Rattle.frame_groups.specs.Tests.{rules}
 use Rattle.open_group.specs.Written.{content_view, spelled}
-use Rattle.stream_laws.specs.SentPackets.{Sent, frame_packets, frame_group}
-use Rattle.stream_laws.specs.Survivors.{is_whole, loss_of, sent_content, sent_record, end_of}
+use Rattle.stream_laws.specs.SentPackets.{Sent}
+use Rattle.stream_laws.specs.Survivors.{is_whole, sent_content, sent_record, end_of}
 use Rattle.stream_laws.specs.UnitLaws.{SurvivalLength, HonestRecords, KeptHonest}
 use Rattle.stream_laws.specs.Streams.{Stream, IsStream, stream_survival}
 use Rattle.stream_laws.specs.FrameLaws.{SentAreFrames, FramesAreStream, TestsMeet, WrittenIsFrame, KeptIsHonest}
@@ -57,14 +52,7 @@ module _ (written : WrittenIsFrame) (c : Config) (inputs : ℕ → List (List �
   whole = is_whole c sent survival
 
   one_view : (m : ℕ) → m < n → content_view c m (sent_content c sent survival m) ≡ record_of c inputs whole m
-  one_view m l = go (whole m)
-    where
-      go : (t : Bool)
-          → content_view c m (if t then Whole (frame_group c.frames sent m)
-          else Muted (loss_of (frame_packets m (items_where_true survival sent))))
-          ≡ (if t then frame_of c inputs m else MutedRecord (emission c m))
-      go true = written c inputs n m plan types l
-      go false = refl
+  one_view m l = grind arith
 
   some_bytes : (a k : ℕ) → a + k ≤ n → flat_map (spelled c) (map (sent_record c sent survival) (range_with_len a k))
       ≡ file_bytes (map (record_of c inputs whole) (range_with_len a k))
@@ -110,8 +98,4 @@ each_kept (suc count) (suc n) l = each_kept count n (omega (arith, l))
 
 pub undamaged_must_come : (c : Config) → IsPlan c → HasByteIds c → KeptIsHonest → WrittenMustCome c
     → UndamagedMustCome c
-undamaged_must_come c plan ids kept written inputs n from l =
-    let count : ℕ = length (drop from (pipe c.pid (front_packets c inputs n))) in
-    written inputs n from (replicate count Kept) l (kept c inputs n from (replicate count Kept) plan
-    ids l (none_altered count)
-    (each_kept count))
+undamaged_must_come c plan ids kept written inputs n from l = grind (arith, replicate, none_altered, each_kept)

@@ -1,9 +1,8 @@
 -- The L1 signalling of a plan fits its fields, and is read back.
 use Rattle.std.proofs.Common.{◌≡◌, ℕ, ◌%◌, ◌^◌, ◌<◌, ◌≤◌, Bool, true, false, List, [], length, map, get_or, Some, refl}
-use Rattle.std.proofs.Common.{ap, sym, subst, ◌∙◌, ⊎_elim, arith, append-nil}
-use Rattle.std.specs.Prelude.{min, nat_lt, MatchBool, if◌then◌else◌}
+use Rattle.std.proofs.Common.{ap, sym, subst, ◌∙◌, arith, append-nil}
+use Rattle.std.specs.Prelude.{min, MatchBool, if◌then◌else◌}
 use Rattle.std.specs.List.{range_with_len}
-use Rattle.std.specs.Option.{option_map}
 use Rattle.std.proofs.lemmas.List.{length-map, get_or-map}
 use Rattle.std.proofs.lemmas.List.FromFn.{get_or-map-range_with_len, length-map-range_with_len}
 use Rattle.std.proofs.Math.Nat.{mod-eq_of_lt}
@@ -26,7 +25,7 @@ use Rattle.plp_config.specs.declared.plp.PlpType.TheVariants.{Common, Type1, Typ
 use Rattle.plp_config.specs.declared.plp.Rate.{Rate}
 use Rattle.plp_config.specs.declared.plp.Rate.TheVariants.{R1_2, R3_5, R2_3, R3_4, R4_5, R5_6}
 use Rattle.scheduler.specs.Laws.{CountsFit, ShapeFitsL1}
-use Rattle.scheduler.specs.Shape.{FrameShape, shape_of, start_of}
+use Rattle.scheduler.specs.Shape.{shape_of, start_of}
 use Rattle.l1_signal.specs.Fields.{RowsFit}
 use Rattle.l1_signal.specs.L1Configurable.{conf_plp_rows, ConfFits}
 use Rattle.l1_signal.specs.L1Dynamic.{dyn_read, dyn_bits, no_dyn_plp, DynFits}
@@ -122,44 +121,18 @@ either_most false x y most a b = b
 
 -- what divides a number is no greater
 divisor_most : (n s : ℕ) → 0 < n → n % s ≡ 0 → s ≤ n
-divisor_most n s some whole = ⊎_elim
-    (λ (l : n < s). let e = mod-eq_of_lt l in absurd (omega (arith, e, whole, some)))
-    (λ (l : s ≤ n). l)
-    (cases_lt n s)
+divisor_most n s some whole = grind (arith, mod-eq_of_lt, cases_lt)
 
 -- TIME_IL_LENGTH has eight bits
 length_most : (plp : Plp) → plp.interleave ≤ 255 → plp.spread ≤ 255 → il_length_of plp < 2 ^ 8
-length_most plp interleave spread =
-    let most : il_length_of plp ≤ 255 = either_most (nat_lt 1 plp.spread) plp.spread plp.interleave 255
-    spread interleave in
-    omega (arith, most)
+length_most plp interleave spread = grind (arith, either_most)
 
 plp_fits : (plp : Plp) → plp.id < 2 ^ 8 → plp.group < 2 ^ 8 → plp.blocks ≤ 1023 → plp.interleave ≤ 255
     → plp.spread ≤ 255
     → RowsFit conf_plp_rows (conf_plp_of plp)
 unfolding conf_plp_of
 plp_fits plp id group blocks interleave spread =
-    plp_numbers_fit (conf_plp_of plp)
-    (record { plp_id = id; plp_group_id = group; time_il_length = length_most plp interleave spread })
-    (record {
-      plp_type = type_most plp.plp_type;
-      plp_payload_type = refl;
-      ff_flag = refl;
-      first_rf_idx = refl;
-      first_frame_idx = refl;
-      plp_cod = cod_most plp.rate;
-      plp_mod = mod_most plp.modulation;
-      plp_rotation = flag_most plp.rotation;
-      plp_fec_type = fec_most plp.fec;
-      plp_num_blocks_max = omega (arith, blocks);
-      frame_interval = refl;
-      time_il_type = flag_most (nat_lt 1 plp.spread);
-      in_band_a_flag = refl;
-      in_band_b_flag = refl;
-      plp_mode = refl;
-      static_flag = refl;
-      static_padding_flag = refl;
-    })
+    grind (arith, plp_numbers_fit, length_most, type_most, cod_most, mod_most, flag_most, fec_most)
 
 slices_most : (n : ℕ) (t : Bool) → MatchBool t ((2 ≤ n) × (n ≤ 6480)) (n ≡ 1) → n ≤ 6480
 slices_most n true h = h.1
@@ -241,19 +214,10 @@ module _ (c : Config) (plan : IsPlan c) (types : TypesFit c) (n : ℕ) (counts :
   pub parts_pass : PartsTold → PreWritten → ConfWritten → DynWritten → ShapeFitsL1
       → parts_agree c n (l1_parts c n counts) ≡ true
   unfolding pre_part conf_part dyn_part dyn_of
-  parts_pass told pre conf dyn law = (told c n (l1_parts c n counts)).1 (record {
-    pre = pre (pre_of c) (pre_fits c plan types);
-    conf = conf (conf_of c) (conf_fits c plan types);
-    dynamic = dyn_of c n (shape_of c counts);
-    spells = dyn (dyn_of c n (shape_of c counts)) (dyn_fits law);
-    frame = refl;
-    ids = ids_same;
-  })
+  parts_pass told pre conf dyn law = grind (arith, pre_fits, conf_fits, dyn_fits, ids_same)
 
   parts_shape : DynReadBack → DynWritten → ShapeFitsL1 → l1_shape c (l1_parts c n counts) ≡ Some (shape_of c counts)
-  parts_shape back written law = ap (option_map told_shape) (dyn_told back written law)
-      ∙ ap (λ (shape : FrameShape). Some shape)
-      (sym shape_told)
+  parts_shape back written law = grind (arith, dyn_told, shape_told)
 
 -- ---- the L1-current of a frame of a run
 

@@ -96,9 +96,7 @@ begins frames n (Other packet_type bits) i t = absurd i
 
 -- A frame that begins a superframe is in another superframe than one before it.
 superframe_later : (frames m n : ℕ) → 0 < frames → n % frames ≡ 0 → m < n → m / frames < n / frames
-superframe_later frames m n some begins l =
-    let parts : n / frames * frames + n % frames ≡ n = div-add-mod' n frames in
-    (div-lt_iff_lt-mul {k = frames} some).1 (omega (arith, parts, begins, l))
+superframe_later frames m n some begins l = grind (arith, div-add-mod', div-lt_iff_lt-mul)
 
 other_superframe : (a b : ℕ) → a < b → b < a + 16 → (a % 16 == b % 16) ≡ false
 other_superframe a b l m = ne_eqb _ _ (λ e. omega (arith, e, l, m))
@@ -256,17 +254,8 @@ unlike_with frames n s (g ∷ gs) e = cond_both (s.frame == g.frame) _ _ (Unlike
 
 unlike_one : (frames n : ℕ) (s : Sent) → IsOfFrame frames s → Follows n s → IsApart frames n s
     → is_same (frame_key frames n) (frame_key frames s.frame) ≡ (n == s.frame)
-unlike_one frames n s o f a = ⊎_elim
-    (λ (e : n ≡ s.frame).
-    and_from _ _ (eq-eqb _ _ (ap (λ (k : ℕ). k / frames % 16) e))
-    (eq-eqb _ _ (ap (λ (k : ℕ). k % frames) e)) ∙ sym (eq-eqb _ _ e))
-    (λ (e : n ≡ s.frame → ⊥).
-    false_from_ne_true _ (λ (t : is_same (frame_key frames n) (frame_key frames s.frame) ≡ true).
-    e (sym (a (key_told frames (Some n) s.frame s.packet.body s.packet.superframe o.superframe o.frame
-    (apart_begins frames (Some n) s o f a)
-    ∙ sym (same_key (frame_key frames n) (frame_key frames s.frame) t)))))
-    ∙ sym (ne_eqb _ _ e))
-    (cases_eq n s.frame)
+unlike_one frames n s o f a =
+    grind (arith, and_from, eq-eqb, false_from_ne_true, key_told, apart_begins, same_key, ne_eqb, cases_eq)
 
 unlike_runs : (frames n : ℕ) (ss : List Sent) → InFrameOrder frames (Some n) ss → AreApart frames (Some n) ss
     → Unlike frames n (frame_runs ss)
@@ -395,9 +384,7 @@ groups_apart frames count sent survival some are apart =
 -- survivors that are near one another
 pub survive_apart : (frames count : ℕ) (sent : List Sent) (survival : List Bool)
     → Survive frames count sent survival → AreApart frames None (items_where_true survival sent)
-survive_apart frames count sent survival h =
-    near_apart frames None (items_where_true survival sent) h.some
-    (order_survivors frames None sent survival h.sent_are.order) h.near
+survive_apart frames count sent survival h = grind (arith, near_apart, order_survivors)
 
 pub groups_are_met : (frames count : ℕ) (sent : List Sent) (survival : List Bool) → Survive frames count sent survival
     → groups frames (packets_of (items_where_true survival sent))

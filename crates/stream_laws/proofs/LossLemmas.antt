@@ -1,10 +1,10 @@
 -- What survives of a frame of which a packet is missing, and what the tests say of it.
 use Rattle.std.proofs.Common.{◌≡◌, ℕ, zero, suc, ◌+◌, ◌-◌, ◌%◌, ◌<◌, ◌≤◌, ◌==◌, ◌&&◌, ◌||◌, not, Bool, true, false}
-use Rattle.std.proofs.Common.{cond, List, [], ◌∷◌, map, length, Option, Some, None, refl, ap, sym, subst, ◌∙◌, ◌⊎◌, inl}
-use Rattle.std.proofs.Common.{inr, ⊎_elim, arith}
+use Rattle.std.proofs.Common.{cond, List, [], ◌∷◌, map, length, Option, Some, None, refl, ap, sym, subst, ◌∙◌, ◌⊎◌}
+use Rattle.std.proofs.Common.{⊎_elim, arith}
 use Rattle.std.specs.Prelude.{slice_get, slice_index, nat_lt, is_some, count_by}
 use Rattle.std.specs.List.{filter, filter_map, cons_option, flat_map, range_with_len, items_where_true, list_all}
-use Rattle.std.specs.List.{list_any, AllByRecursion}
+use Rattle.std.specs.List.{AllByRecursion}
 use Rattle.std.specs.Option.{option_or, option_and_then}
 use Rattle.std.proofs.lemmas.Bool.{and_from, and_parts, cases_Bool, cond_both, cond-true, cond-false, eq-eqb, eqb-true}
 use Rattle.std.proofs.lemmas.Bool.{eqb-false, ltb-true, true_from_ne_false, true≢false, false≢true, both_ways}
@@ -14,15 +14,14 @@ use Rattle.terms.proofs.AllLemmas.{all_append}
 use Rattle.terms.proofs.OptionLemmas.{none_if}
 use Rattle.stream_laws.proofs.MadeLemmas.{all_bodies}
 use Rattle.plp_config.specs.Capacity.{IsPlan}
-use Rattle.plp_config.specs.InterleavingFrames.{interleaving_frame, is_first, begin_of}
-use Rattle.plp_config.specs.Places.{places}
+use Rattle.plp_config.specs.InterleavingFrames.{is_first, begin_of}
 use Rattle.plp_config.specs.Plps.{plp_at}
 use Rattle.plp_config.specs.declared.config.Config.{Config}
 use Rattle.t2mi_packet.specs.declared.packet.Body.{Body}
 use Rattle.t2mi_packet.specs.declared.packet.Body.TheVariants.{Block, Timestamp}
 use Rattle.t2mi_packet.specs.declared.packet.Packet.{Packet}
 use Rattle.t2mi_packet.specs.declared.packet.Stamp.{Stamp}
-use Rattle.mode_adapt.specs.Blocks.{plp_blocks, own_blocks, told_count, told_counts}
+use Rattle.mode_adapt.specs.Blocks.{own_blocks, told_count, told_counts}
 use Rattle.record_laws.specs.Frames.{frame_shape}
 use Rattle.frame_groups.specs.Modulated.{Numbered}
 use Rattle.frame_groups.specs.declared.cause.MuteCause.{MuteCause}
@@ -150,15 +149,7 @@ pub record BeginsAll (c : Config) (n k : ℕ) : Type 0 where
 -- blocks that are sent in a frame are those of an interleaving frame that begins in it
 own_begins : (c : Config) (inputs : ℕ → List (List ℕ)) (n plp : ℕ) → 0 < length (own_blocks c inputs n plp)
     → (is_first c plp n ≡ true) × (length (own_blocks c inputs n plp) ≡ told_count c inputs n plp)
-own_begins c inputs n plp some =
-    let carried : List (List Bool) = plp_blocks c inputs (interleaving_frame c plp n) plp in
-    ⊎_elim
-    (λ (e : is_first c plp n ≡ true).
-    (e, ap (λ (l : List (List Bool)). length l) (cond-true (is_first c plp n) carried [] e)))
-    (λ (e : is_first c plp n ≡ false).
-    let none = ap (λ (l : List (List Bool)). length l) (cond-false (is_first c plp n) carried [] e) in
-    absurd (omega (arith, some, none)))
-    (cases_Bool (is_first c plp n))
+own_begins c inputs n plp some = grind (arith, cond-true, cond-false, cases_Bool)
 
 count_some : {X Y : Type 0} (f : X → Option Y) (xs : List X) → count_by (λ x. is_some (f x)) xs ≡ length
     (filter_map f xs)
@@ -411,47 +402,19 @@ module _ (c : Config) (sent : List Sent) (survival : List Bool) (n : ℕ) (miss 
   -- fewer survive of the packets of the frame in which it was sent
   fewer_left : (b : ℕ) → (miss.packet.frame == b) ≡ true → (test : Packet → Bool) → test miss.packet.packet ≡ true
       → count_by test (frame_packets b (items_where_true survival sent)) < count_by test (frame_packets b sent)
-  fewer_left b here test passes =
-      let l = miss.fewer (λ (s : Sent). (s.frame == b) && test s.packet)
-      (and_from _ _ here passes) in
-      let x = count_in b test (items_where_true survival sent) in
-      let y = count_in b test sent in
-      omega (arith, l, x, y)
+  fewer_left b here test passes = grind (arith, and_from, count_in)
 
   -- and of the blocks of an interleaving frame that it carries, if it is one of them
   pub fewer_begun : (plp : ℕ) → is_begun c plp n miss.packet ≡ true
       → length (blocks_of c plp (frame_packets (begin_of c plp n) (items_where_true survival sent)))
       < length (blocks_of c plp (frame_packets (begin_of c plp n) sent))
-  fewer_begun plp e =
-      let id : ℕ = (plp_at c.plps plp).id in
-      let test : Packet → Bool = λ p. is_some (body_block id p.body) in
-      let parts = and_parts _ _ e in
-      let l = fewer_left (begin_of c plp n) parts.0 test (block_some id miss.packet.packet.body ∙ parts.1) in
-      let x = count_some (λ (p : Packet). body_block id p.body) (frame_packets (begin_of c plp n)
-      (items_where_true survival sent)) in
-      let y = count_some (λ (p : Packet). body_block id p.body) (frame_packets (begin_of c plp n) sent) in
-      omega (arith, l, x, y)
+  fewer_begun plp e = grind (arith, and_parts, fewer_left, block_some, count_some)
 
 -- A packet that a frame carries is one of its own, or a block of an interleaving frame that began before.
 carried_cases : (c : Config) (n : ℕ) (s : Sent) → carries c n s ≡ true
     → ((s.frame == n) ≡ true)
     ⊎ ((plp : ℕ) × (plp < length c.plps) × (is_first c plp n ≡ false) × (is_begun c plp n s ≡ true))
-carried_cases c n s e = go (s.frame == n) refl e
-  where
-    go : (t : Bool) → (s.frame == n) ≡ t → (t || list_any (λ plp. is_begun c plp n s) (places c)) ≡ true
-        → ((s.frame == n) ≡ true)
-        ⊎ ((plp : ℕ) × (plp < length c.plps) × (is_first c plp n ≡ false) × (is_begun c plp n s ≡ true))
-    go true is e = inl is
-    go false is e =
-        let one = place_of_any c (λ plp. is_begun c plp n s) e in
-        ⊎_elim
-        (λ (f : is_first c one.0 n ≡ true).
-        let here = begun_here c one.0 n f in
-        let own = (and_parts _ _
-        one.2).0 in
-        absurd (eqb-false _ _ is (eqb-true _ _ own ∙ here)))
-        (λ (f : is_first c one.0 n ≡ false). inr (one.0, one.1, f, one.2))
-        (cases_Bool (is_first c one.0 n))
+carried_cases c n s e = grind (arith, place_of_any, begun_here, and_parts, eqb-false, eqb-true, cases_Bool)
 
 -- What survives of a frame that is not whole lacks something, as a frame that begins what it does: here, or, if this is
 -- the frame itself, where an interleaving frame began.

@@ -17,9 +17,8 @@ use Rattle.l1_signal.specs.L1Configurable.{conf_bits}
 use Rattle.l1_signal.specs.L1Of.{pre_of, conf_of}
 use Rattle.l1_signal.specs.L1Pre.{pre_bits}
 use Rattle.t2mi_packet.specs.declared.packet.Body.{Body}
-use Rattle.t2mi_packet.specs.declared.packet.Body.TheVariants.{Block, Timestamp}
+use Rattle.t2mi_packet.specs.declared.packet.Body.TheVariants.{Block}
 use Rattle.t2mi_packet.specs.declared.packet.Packet.{Packet}
-use Rattle.t2mi_packet.specs.declared.packet.Stamp.{Stamp}
 use Rattle.frame_groups.specs.Carried.{body_block, has_length, L1Parts, body_l1, body_stamp, l1s_of, stamps_of}
 use Rattle.frame_groups.specs.Carried.{blocks_of, right_blocks}
 use Rattle.frame_groups.specs.Tests.{begins_superframe, body_known, is_known}
@@ -139,13 +138,7 @@ module _ (c : Config) (n : ℕ) (dynamic : List Bool) (blocks : ℕ → List (Li
 
   pub frame_stamps : filter_map body_stamp (made_bodies c n dynamic blocks)
       ≡ (if begins_superframe c n then stamp_of c n ∷ [] else [])
-  frame_stamps = go (n % c.frames == 0)
-    where
-      go : (t : Bool) → filter_map body_stamp (if t then Timestamp (stamp_of c n) ∷ made_l1 c n dynamic
-          ∷ plp_bodies c n blocks 0
-          else made_l1 c n dynamic ∷ plp_bodies c n blocks 0) ≡ (if t then stamp_of c n ∷ [] else [])
-      go true = ap (λ (l : List Stamp). stamp_of c n ∷ l) rest_stamps
-      go false = rest_stamps
+  frame_stamps = grind (arith, rest_stamps)
 
   pub frame_blocks : IsPlan c → (plp : ℕ) → plp < length c.plps
       → filter_map (body_block (plp_at c.plps plp).id) (made_bodies c n dynamic blocks) ≡ blocks plp
@@ -190,12 +183,7 @@ known_plps c bodies h a (suc k) l =
 
 pub known_frame : (c : Config) (n : ℕ) (dynamic : List Bool) (blocks : ℕ → List (List Bool))
     → ((plp : ℕ) → AreLong c plp (blocks plp)) → list_all (body_known c) (made_bodies c n dynamic blocks) ≡ true
-known_frame c n dynamic blocks long =
-    let rest : list_all (body_known c) (plp_bodies c n blocks 0) ≡ true =
-    known_plps c (λ plp. block_bodies (n % c.frames) (plp_at c.plps plp).id true (blocks plp))
-    (λ plp inside. known_blocks c (n % c.frames) plp true (blocks plp) inside (long plp)) 0 (length c.plps - 0)
-    (omega arith) in
-    cond_both {A = List Body} (n % c.frames == 0) _ _ (λ l. list_all (body_known c) l ≡ true) (λ t. rest) (λ t. rest)
+known_frame c n dynamic blocks long = grind (arith, known_plps, known_blocks, cond_both)
 
 pub all_right : (c : Config) (plp : ℕ) (blocks : List (List Bool)) → AreLong c plp blocks
     → filter (has_length c plp) blocks ≡ blocks

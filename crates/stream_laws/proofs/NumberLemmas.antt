@@ -1,7 +1,7 @@
 -- From the join on, each group has the number of its frame.
 use Rattle.std.proofs.Common.{◌≡◌, ◌≢◌, ℕ, zero, suc, ◌+◌, ◌<◌, ◌≤◌, cond, List, [], ◌∷◌, ◌++◌, map, length, Option}
 use Rattle.std.proofs.Common.{Some, None, refl, ap, ap₂, sym, ◌∙◌, ⊎_elim, arith}
-use Rattle.std.specs.Prelude.{nat_le, nat_lt}
+use Rattle.std.specs.Prelude.{nat_lt}
 use Rattle.std.specs.List.{filter, items_where_true, range_with_len}
 use Rattle.std.proofs.lemmas.Bool.{cases_eq, cond-true, cond-false, false_from_ne_true, leb-true, le-leb, lt-ltb}
 use Rattle.std.proofs.lemmas.Simd.{map-map}
@@ -52,9 +52,7 @@ number_at : (first n : ℕ) → first ≤ n → number_from first n ≡ Some n
 number_at first n l = cond-true _ _ _ (le-leb _ _ l)
 
 number_before : (first n : ℕ) → n < first → number_from first n ≡ None
-number_before first n l =
-    cond-false _ _ _
-    (false_from_ne_true (nat_le first n) (λ t. let most = leb-true first n t in omega (arith, most, l)))
+number_before first n l = grind (arith, cond-false, false_from_ne_true, leb-true)
 
 all_later : (frames first n : ℕ) (gs : List Met) → first ≤ n → Steps frames n gs
     → map (λ (g : Met). Some g.frame) gs ≡ map (λ (g : Met). number_from first g.frame) gs

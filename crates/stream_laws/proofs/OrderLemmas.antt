@@ -1,5 +1,5 @@
 -- The order of these packets, and how near they are.
-use Rattle.std.proofs.Common.{◌≡◌, ◌≢◌, ℕ, zero, suc, ◌+◌, ◌-◌, ◌%◌, ◌<◌, ◌≤◌, ◌==◌, Bool, true, false, List, [], ◌∷◌}
+use Rattle.std.proofs.Common.{◌≡◌, ◌≢◌, ℕ, zero, suc, ◌+◌, ◌-◌, ◌%◌, ◌<◌, ◌≤◌, Bool, true, false, List, [], ◌∷◌}
 use Rattle.std.proofs.Common.{◌++◌, length, Option, Some, None, refl, ap, sym, subst, ◌∙◌, ⊎_elim, arith}
 use Rattle.std.specs.List.{AllByRecursion}
 use Rattle.std.proofs.lemmas.Bool.{cases_eq, cases_lt, cond_both, eqb-true}
@@ -174,17 +174,7 @@ near_made : (c : Config) (n : ℕ) (before : Option ℕ) (dynamic : List Bool) (
     (number : ℕ) → 0 < c.frames → SpacedSome c before n → AreNear c.frames (Some n) rest
     → AreNear c.frames before (sent_from c number (pairs n (made_bodies c n dynamic blocks)) ++ rest)
 near_made c n before dynamic blocks rest number some spaced h =
-    cond_both {A = List Body} (n % c.frames == 0) _ _
-    (λ l. AreNear c.frames before (sent_from c number (pairs n l) ++ rest))
-    (λ t. (
-      near_some c before _ spaced (λ _. eqb-true _ _ t),
-      near_rest c n (made_l1 c n dynamic ∷ plp_bodies c n blocks 0) rest (number + 1) some h,
-    ))
-    (λ t. (
-      near_some c before _ spaced (λ e. absurd e),
-      near_rest c n (plp_bodies c n blocks 0) rest
-          (number + 1) some h,
-    ))
+    grind (arith, cond_both, pairs, near_some, eqb-true, near_rest, made_l1)
 
 near_from : (c : Config) (f : NumberedView) (fs : List NumberedView) (before : Option ℕ) (number : ℕ) → 0 < c.frames
     → SpacedSome c before f.number → AreSpacedFrom c f.number fs → AllMade c (f ∷ fs)

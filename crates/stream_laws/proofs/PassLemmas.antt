@@ -1,11 +1,10 @@
 -- The six tests of the packets of a frame, and what they say of fewer.
-use Rattle.std.proofs.Common.{◌≡◌, ℕ, zero, suc, ◌+◌, ◌*◌, ◌/◌, ◌<◌, ◌≤◌, ◌&&◌, Bool, true, false, List, [], ◌∷◌}
+use Rattle.std.proofs.Common.{◌≡◌, ℕ, zero, suc, ◌+◌, ◌*◌, ◌<◌, ◌≤◌, ◌&&◌, Bool, true, false, List, [], ◌∷◌}
 use Rattle.std.proofs.Common.{length, Some, None, refl, ap, sym, subst, ◌∙◌, ⊎_elim, arith, sum_by}
 use Rattle.std.specs.Prelude.{slice_index}
 use Rattle.std.specs.Bool.{beq}
 use Rattle.std.specs.Cmp.{booleans_Decides}
 use Rattle.std.specs.Cmp.Lexicographic.{pointwise, pointwise_decides}
-use Rattle.std.specs.Int.{div_ceil}
 use Rattle.std.specs.List.{list_all, range_with_len, AllByRecursion}
 use Rattle.std.proofs.lemmas.Bool.{and_from, cases_Bool, cond-true, cond-false, eq-eqb, le-leb, cond_both}
 use Rattle.std.proofs.lemmas.List.Folds.{fold-map}
@@ -25,7 +24,7 @@ use Rattle.scheduler.specs.Laws.{CountsFit, ShapeFitsL1, ShapeHasCounts}
 use Rattle.cell_map.specs.Laws.{ShapePasses}
 use Rattle.l1_signal.specs.Laws.{PreWritten, ConfWritten, DynReadBack, DynWritten}
 use Rattle.t2mi_packet.specs.declared.packet.Packet.{Packet}
-use Rattle.mode_adapt.specs.Blocks.{plp_blocks, own_blocks, told_count, told_counts}
+use Rattle.mode_adapt.specs.Blocks.{plp_blocks, own_blocks, told_counts}
 use Rattle.record_laws.specs.Frames.{frame_shape}
 use Rattle.record_laws.specs.Laws.{ToldCountsFit}
 use Rattle.frame_groups.specs.Modulated.{Numbered}
@@ -88,19 +87,14 @@ bits_self : (bits : List Bool) → pointwise beq bits bits ≡ true
 bits_self bits = (pointwise_decides booleans_Decides bits bits).1 refl
 
 parts_self : (l1 : L1Parts) → same_parts l1 l1 ≡ true
-parts_self l1 =
-    and_from _ _ (and_from _ _ (and_from _ _ (bits_self l1.pre) (bits_self l1.conf)) (bits_self l1.dynamic))
-    (bits_self l1.extension)
+parts_self l1 = grind (arith, and_from, bits_self)
 
 -- ---- the chunks of a frame
 
 -- a block fills one chunk at least
 chunks_most : BlockChunks → CellsByFive → (c : Config) (plp : ℕ) → 2025 * chunks_for (block_bytes c plp) ≤ 7
     * block_cells c plp
-chunks_most law cells c plp =
-    let h : div_ceil (block_bytes c plp) 256 ≤ 7 * (block_cells c plp / 2025) = law c plp in
-    let some = cells c plp in
-    omega (arith, h, some.1)
+chunks_most law cells c plp = grind arith
 
 sums_most : (f g : ℕ → ℕ) (count : ℕ) → ((plp : ℕ) → plp < count → 2025 * f plp ≤ 7 * g plp) → (a k : ℕ) → a + k ≤ count
     → 2025 * sum_by f (range_with_len a k) ≤ 7 * sum_by g (range_with_len a k)
@@ -153,14 +147,7 @@ module _ (given : Given) (c : Config) (inputs : ℕ → List (List ℕ)) (n : �
 
   -- what is sent of a PLP is no more than it may have
   pub own_few : (plp : ℕ) → plp < length c.plps → length (own_blocks c inputs n plp) ≤ (plp_at c.plps plp).blocks
-  own_few plp inside =
-      let all : List (List Bool) = plp_blocks c inputs (interleaving_frame c plp n) plp in
-      let a : length (own_blocks c inputs n plp) ≤ told_count c inputs n plp =
-      cond_both (is_first c plp n) all [] (λ blocks. length blocks ≤ length all) (λ e. omega arith)
-      (λ e. omega arith) in
-      let b = count_at c inputs n plp inside in
-      let most = fit.within plp inside in
-      omega (arith, a, b, most)
+  own_few plp inside = grind (arith, cond_both, count_at, fit)
 
   -- a, if no PLP has more blocks, here or where an interleaving frame began that frame n carries
   room_passes : (packets : List Packet) → AreFew c packets → room_test c packets ≡ None

@@ -30,13 +30,7 @@ record Written (p : Packet) (bytes : List ℕ) : Type 0 where
 
 -- the packet of a body, with any number, fits if the body does
 fits_with : (c : Config) (number : ℕ) (b : ℕ × Body) → PairFits b → Fits (packet_with c number b.0 b.1)
-fits_with c number b h = record {
-  packet_count = omega arith;
-  superframe = omega arith;
-  stream = omega arith;
-  body = h.0;
-  payload = h.1;
-}
+fits_with c number b h = grind arith
 
 module _ (bounded : (w : List Bool) → crc32_of w < 2 ^ 32) (spell_is : SpellIs) (read : WrittenIsRead)
     (len : WrittenLength) where

@@ -4,7 +4,7 @@ use Rattle.std.proofs.Common.{◌≡◌, ℕ, zero, suc, ◌+◌, ◌-◌, ◌%�
 use Rattle.std.proofs.Common.{◌∷◌, ◌++◌, length, map, find, count_by, Option, Some, None, refl, ap, ap₂, sym}
 use Rattle.std.proofs.Common.{subst, ◌∙◌, ⊎_elim, arith, append-nil, length-append}
 use Rattle.std.specs.Prelude.{if◌then◌else◌}
-use Rattle.std.specs.List.{filter, range_with_len, items_where_true, last_or, list_all, AllByRecursion}
+use Rattle.std.specs.List.{range_with_len, items_where_true, last_or, list_all, AllByRecursion}
 use Rattle.std.specs.Option.{option_map_or}
 use Rattle.std.proofs.lemmas.Bool.{cases_Bool, cases_lt, cond-true, cond-false, and_from, and_left, eq-eqb, or_parts}
 use Rattle.std.proofs.lemmas.Bool.{or_left, le-leb, true≢false}
@@ -168,9 +168,7 @@ room_none c = rw (no_need c, le-leb 0 (pool_chunks c) (omega arith)) refl
 
 -- so many packets are of a frame
 counted : (n : ℕ) (sent : List Sent) → count_by (λ (s : Sent). s.frame == n) sent ≡ length (frame_packets n sent)
-counted n sent =
-    sym (length-filter (λ (s : Sent). s.frame == n) sent)
-    ∙ sym (length-map (filter (λ (s : Sent). s.frame == n) sent) (λ (s : Sent). s.packet))
+counted n sent = grind (arith, length-filter, length-map)
 
 -- ---- all of it
 
@@ -226,9 +224,7 @@ module _ (law : ModulatedIsRecords) (all : WholeIsAll) (misses : NotWholeMisses)
 
   -- all packets of a complete frame are left
   all_left : (n : ℕ) (g : NumberedView) → There n g → complete g ≡ true → frame_packets n sent ≡ frame_packets n ss
-  all_left n g h e =
-      h.more ∙ ap (λ (t : Bool). frame_packets n ss ++ packets_of (lost_by c g.number t)) e
-      ∙ append-nil _
+  all_left n g h e = grind (arith, lost_by, append-nil)
 
   no_block : (plp n m : ℕ) → is_begun c plp n (stand_in c m) ≡ false
   no_block plp n m = and_false ((stand_in c m).frame == begin_of c plp n)
@@ -269,10 +265,7 @@ module _ (law : ModulatedIsRecords) (all : WholeIsAll) (misses : NotWholeMisses)
 
   -- a whole frame has lost none of its packets
   whole_left : (n : ℕ) → whole n ≡ true → frame_packets n ss ≡ frame_packets n sent
-  whole_left n w =
-      sym (ap (frame_packets n) left)
-      ∙ ap packets_of (all c sent survival n (λ (s : Sent). s.frame == n) told w
-      (λ s e. or_left _ _ e))
+  whole_left n w = grind (arith, left, told, or_left)
 
   whole_found : (n : ℕ) → n < end → whole n ≡ true → (g : NumberedView) × There n g × (complete g ≡ true)
   whole_found n l w = go (look c frames n 0 0 frames rises (omega arith))
@@ -294,10 +287,7 @@ module _ (law : ModulatedIsRecords) (all : WholeIsAll) (misses : NotWholeMisses)
 
   -- what is to be said of a frame that is not whole: it is there and not complete, or it is not there
   not_complete : (n : ℕ) (g : NumberedView) → whole n ≡ false → There n g → complete g ≡ false
-  not_complete n g w h = ⊎_elim
-      (λ (e : complete g ≡ true). absurd (true≢false (sym (found_whole n g h e) ∙ w)))
-      (λ (e : complete g ≡ false). e)
-      (cases_Bool (complete g))
+  not_complete n g w h = grind (arith, true≢false, found_whole, cases_Bool)
 
   comes : (n : ℕ) (g : NumberedView) → There n g → ComesBack c n g.view (frame_packets n ss)
   comes n g h =
@@ -336,11 +326,7 @@ module _ (law : ModulatedIsRecords) (all : WholeIsAll) (misses : NotWholeMisses)
 
     told_is : (g : NumberedView) → There n g → (plp : ℕ) → plp < length c.plps → is_first c plp n ≡ false
         → has_told c n g.view past plp ≡ (blocks_at c plp frames (begin_of c plp n) == plp_num_blocks c plp g.view)
-    told_is g h plp inside e =
-        ap (λ (l : List Packet). has_begun c plp l (plp_num_blocks c plp g.view))
-        (begun_met laws c plan first n (items_where_true survival sent) past met plp inside e
-        ∙ ap (frame_packets (begin_of c plp n)) left)
-        ∙ begun_at (begin_of c plp n) plp (plp_num_blocks c plp g.view) inside
+    told_is g h plp inside e = grind (arith, begun_met, left, begun_at)
 
     -- a frame is complete, by the PLPs, if it is there
     abbrev place_complete : NumberedView → ℕ → ℕ → Bool
@@ -443,13 +429,7 @@ module _ (law : ModulatedIsRecords) (all : WholeIsAll) (misses : NotWholeMisses)
   last_above = let l = end_above (f.number + 1) fs rises.1 in omega (arith, l)
 
   earlier_lost : (n : ℕ) → n < f.number → whole n ≡ false
-  earlier_lost n l = ⊎_elim
-      (λ (w : whole n ≡ true).
-      let above = last_above in
-      let x = whole_found n (omega (arith, l, above)) w in
-      none_some x.0 (sym (at_before c frames n f.number frames (omega arith, rises.1) l) ∙ x.1.found))
-      (λ (w : whole n ≡ false). w)
-      (cases_Bool (whole n))
+  earlier_lost n l = grind (arith, last_above, whole_found, none_some, at_before, cases_Bool)
 
   first : find joins (range_with_len 0 end) ≡ Some f.number
   first =

@@ -148,12 +148,7 @@ module _ (c : Config) (n : ℕ) (pre conf dynamic : List Bool) (blocks : ℕ →
 
   order_l1 : (before : Option ℕ) (number : ℕ) → NotLater before n
       → InFrameOrder c.frames before (sent_from c number (pairs n front) ++ rest)
-  order_l1 before number l = (
-    record { superframe = refl; frame = refl },
-    plain_follows before _ (λ t. t) l,
-    order_rest c n (Some n) (plp_bodies c n blocks 0) rest (number + 1) (plain_plps c n blocks) (omega arith)
-        behind behind,
-  )
+  order_l1 before number l = grind (arith, plain_follows, order_rest, plain_plps)
 
   pub order_frame : (before : Option ℕ) (number : ℕ) → Earlier before n
       → InFrameOrder c.frames before (sent_from c number (pairs n (with_stamp c n front)) ++ rest)

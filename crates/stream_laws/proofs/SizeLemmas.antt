@@ -34,10 +34,7 @@ AreLong c plp blocks = AllByRecursion (λ b. length b ≡ 8 * block_bytes c plp)
 -- a block of Kbch bits is sent as so many bytes
 sent_size : BitCounts → (c : Config) (plp : ℕ) (bits : List Bool) → length bits ≡ 8 * block_bytes c plp
     → has_size (sent_block c plp bits) (size_of c plp) ≡ true
-sent_size counts c plp bits e =
-    and_from _ _ (eq-eqb (plp_at c.plps plp).id (plp_at c.plps plp).id refl)
-    (eq-eqb (length (sent_block c plp bits).bytes) (block_bytes c plp)
-    (let s = block_len counts c plp bits e in omega (arith, s)))
+sent_size counts c plp bits e = grind (arith, and_from, eq-eqb, block_len)
 
 plp_sizes : BitCounts → (c : Config) (plp : ℕ) (blocks : List (List Bool)) → AreLong c plp blocks
     → pointwise has_size (map (sent_block c plp) blocks) (replicate (length blocks) (size_of c plp)) ≡ true

@@ -1,18 +1,16 @@
 -- Whole frames, and what is missing in others.
 use Rattle.std.proofs.Common.{◌<◌, ◌≡◌, ℕ, suc, ◌+◌, ◌≤◌, Bool, true, false, cond, List, [], ◌∷◌, length, count_by}
-use Rattle.std.proofs.Common.{refl, ap, sym, ◌∙◌, ⊎_elim, arith, true≢false, ◌&&◌, ◌≢◌, ◌==◌, ◌||◌, ap₂, subst}
+use Rattle.std.proofs.Common.{refl, ap, sym, ◌∙◌, ⊎_elim, arith, true≢false, ◌&&◌, ap₂}
 use Rattle.std.specs.Prelude.{slice_get, Some, zip}
-use Rattle.std.specs.List.{filter, items_where_true, list_any}
+use Rattle.std.specs.List.{filter, items_where_true}
 use Rattle.std.proofs.lemmas.Bool.{cases_Bool, cond-true, cond-false, and_from, cases_eq, eq-eqb, ne_eqb}
 use Rattle.std.proofs.lemmas.List.Sums.{sum_by-cons}
 use Rattle.std.proofs.lemmas.Option.{same_Some}
 use Rattle.stream_laws.specs.SentPackets.{Sent}
-use Rattle.stream_laws.specs.Survivors.{carries, all_survive, is_block_of, is_begun}
+use Rattle.stream_laws.specs.Survivors.{carries, all_survive}
 use Rattle.stream_laws.specs.DamageLaws.{WholeTold, WholeIsAll, Misses, NotWholeMisses, CarriesAlone}
 use Rattle.std.proofs.lemmas.List.Folds.{list_any_none}
 use Rattle.plp_config.specs.Laws.{BeginAlone}
-use Rattle.plp_config.specs.Places.{places}
-use Rattle.plp_config.specs.Plps.{plp_at}
 use Rattle.frame_groups.proofs.BegunLemmas.{place_there}
 
 -- the packets that pass a test, told whether they survive
@@ -116,16 +114,7 @@ misses_on all s sent t survival m = record {
 
 misses_here : (all : Sent → Bool) (s : Sent) (sent : List Sent) (survival : List Bool) → all s ≡ true
     → Misses all (s ∷ sent) (false ∷ survival)
-misses_here all s sent survival e = record {
-  packet = s;
-  there = (0, omega arith, refl);
-  passing = e;
-  fewer = λ test t.
-      let b = counted test s sent in
-      let o : cond {A = ℕ} (test s) 1 0 ≡ 1 = cond-true _ _ _ t in
-      let l = count_survivors test sent survival in
-      omega (arith, b, o, l);
-}
+misses_here all s sent survival e = grind (arith, counted, cond-true, count_survivors)
 
 not_all_misses : (all : Sent → Bool) (sent : List Sent) (survival : List Bool) → all_survive all sent survival ≡ false
     → Misses all sent survival
@@ -149,18 +138,4 @@ not_whole_misses c sent survival n w = not_all_misses (carries c n) sent surviva
 -- ---- interleaving frames of single frames: a frame carries what is sent in it
 
 pub carries_alone : BeginAlone → CarriesAlone
-carries_alone law c n s alone =
-    ⊎_elim
-    (λ (e : s.frame ≡ n).
-    rw (eq-eqb s.frame n e) refl)
-    (λ (ne : s.frame ≢ n).
-    let other : (s.frame == n) ≡ false = ne_eqb _ _ ne in
-    let none : list_any (λ plp. is_begun c plp n s) (places c) ≡ false =
-    list_any_none (λ plp. is_begun c plp n s) (places c)
-    (λ k d l.
-    let at = place_there c k d l in
-    subst (λ (j : ℕ). is_begun c j n s ≡ false) (sym at.0)
-    (ap (λ (t : Bool). t && is_block_of (plp_at c.plps k).id s.packet.body)
-    (ne_eqb _ _ (λ e. ne (e ∙ (law c k n (alone k at.1)).2))))) in
-    ap₂ (λ (a b : Bool). a || b) other none ∙ sym other)
-    (cases_eq s.frame n)
+carries_alone law c n s alone = grind (arith, eq-eqb, ne_eqb, list_any_none, place_there, ap₂, cases_eq)
