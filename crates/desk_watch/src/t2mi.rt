@@ -52,6 +52,14 @@ fn part_of(unit: &[u8; SIZE]) -> &[u8] {
     }
 }
 
+// Puts bytes behind those that a room has, up to its end, and tells how many it has then.
+fn put_behind(room: &mut [u8], has: usize, bytes: &[u8]) -> usize {
+    let (_, free) = room.split_at_mut(has.min(room.len()));
+    let count = bytes.len().min(free.len());
+    free[..count].copy_from_slice(&bytes[..count]);
+    has.saturating_add(count)
+}
+
 impl T2miCounts {
     /// Nothing came.
     pub fn new() -> T2miCounts {
@@ -86,12 +94,7 @@ impl T2miCounts {
     // Takes bytes of a front, up to its end, and gives the others.
     fn fill<'a>(&mut self, bytes: &'a [u8]) -> &'a [u8] {
         let (part, rest) = bytes.split_at(FRONT.saturating_sub(self.filled).min(bytes.len()));
-        for byte in part {
-            if let Some(place) = self.front.get_mut(self.filled) {
-                *place = *byte;
-            }
-            self.filled = self.filled.saturating_add(1);
-        }
+        self.filled = put_behind(&mut self.front, self.filled, part);
         if self.filled >= FRONT {
             self.begin();
         }
@@ -141,12 +144,7 @@ impl T2miCounts {
 
     // Takes bytes of the unit under way, up to its end at most.
     fn go_on(&mut self, bytes: &[u8]) {
-        for byte in bytes {
-            if let Some(place) = self.unit.get_mut(self.came) {
-                *place = *byte;
-            }
-            self.came = self.came.saturating_add(1);
-        }
+        self.came = put_behind(&mut self.unit, self.came, bytes);
         if self.came >= SIZE {
             self.came = 0;
             let unit = self.unit;
