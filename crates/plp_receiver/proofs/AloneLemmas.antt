@@ -1,7 +1,7 @@
 -- Interleaving frames that are carried by one frame.
 use Rattle.std.proofs.Common.{◌≡◌, ℕ, ◌+◌, ◌-◌, ◌%◌, ◌==◌, ◌<◌, Bool, true, List, [], ◌∷◌, length, take}
 use Rattle.std.proofs.Common.{drop, Option, Some, None, refl, ap, ap₂, ◌∙◌, sym, arith, cond}
-use Rattle.std.specs.Prelude.{nat_le, option_map, slice_get, slice_index}
+use Rattle.std.specs.Prelude.{option_map, slice_get, slice_index}
 use Rattle.std.specs.List.{range_with_len}
 use Rattle.std.proofs.lemmas.Bool.{eq-eqb, le-leb}
 use Rattle.std.proofs.lemmas.List.FromFn.{fill_by_all}
@@ -28,12 +28,6 @@ unfolding parts_of
 parts_of_one c plp n v = one_agrees plp (part_of c n v)
 
 module _ (c : Config) (plp first : ℕ) (views : List RecordView) (one : spread c.plps plp ≡ 1) where
-  -- what the records tell of epoch m, if so many frames carry one
-  abbrev parts_by : ℕ → ℕ → Option (List Part)
-  parts_by s from =
-      cond {A = Option (List Part)} (nat_le first from)
-      (agreeing plp (parts_of c from (take s (drop (from - first) views)))) None
-
   parts_are : (place : ℕ) (v : RecordView) → slice_get views place ≡ Some v
       → epoch_parts c plp first views (first + place) ≡ option_map (λ p. p ∷ []) (part_of c (first + place) v)
   parts_are place v e = grind (arith, le-leb, Option, one_taken, parts_of_one)

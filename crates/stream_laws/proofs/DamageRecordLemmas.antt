@@ -10,7 +10,7 @@ use Rattle.std.proofs.lemmas.List.{map-append}
 use Rattle.t2mi_packet.specs.declared.packet.Packet.{Packet}
 use Rattle.frame_groups.specs.Groups.{Group}
 use Rattle.frame_groups.specs.Laws.{NextIsFound}
-use Rattle.frame_groups.specs.Modulated.{Content, FrameRecord, Numbered, Rules, group_record, gap_record}
+use Rattle.frame_groups.specs.Modulated.{FrameRecord, Numbered, Rules, group_record, gap_record}
 use Rattle.frame_groups.specs.Modulated.{unless_fault, passing, join_number, past_with, gaps_between, gaps_behind}
 use Rattle.frame_groups.specs.Modulated.{own_record, records_from, modulated}
 use Rattle.frame_groups.specs.Modulated.Content.{Whole, Muted}
@@ -67,9 +67,6 @@ loss_some (p ∷ ps) h = refl
 pub none_with : (n : ℕ) (fault : Option MuteCause) → is_some fault ≡ true → unless_fault n fault ≡ None
 none_with n None e = absurd (true≢false (sym e))
 none_with n (Some cause) e = refl
-
-abbrev record_with : ℕ → Content → FrameRecord
-record_with n content = record { number = n; content = content }
 
 -- what is sent in a frame is carried in it
 pub own_carried : (c : Config) (n : ℕ) (s : Sent) → (s.frame == n) ≡ true → carries c n s ≡ true
